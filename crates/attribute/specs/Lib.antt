@@ -1,0 +1,2 @@
+pub mod Attributes
+pub mod Kinds

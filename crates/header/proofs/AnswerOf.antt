@@ -1,0 +1,44 @@
+-- A contract that says `answerOf r ≡ ..` names one outcome: the outcome can be read back from its answer, since a header is told by
+-- its seven fields and a refusal by its number. So two outcomes with the same answer are the same.
+-- Assumes nothing.
+use mathlib.Core.Path.{_≡_, refl, sym, ap, _∙_}
+use mathlib.Core.Bool.{cond}
+use lib.Dec.{eqb}
+use Rattle.rfc6733.specs.Answer.{Answer, accepted, refused, incomplete, notVersion}
+use Rattle.rfc6733.specs.Header as rfc
+use Rattle.rfc6733.specs.Decoder.{Message}
+use Rattle.header.specs.declared.Header.{Header}
+use Rattle.header.specs.declared.Parsed.{Parsed}
+use Rattle.header.specs.declared.Parsed.the-variants.{Accepted, Incomplete, NotVersion, BadLength}
+use Rattle.header.specs.Parsed.{headerAs, answerOf}
+
+abbrev pub header-back : rfc.Header → Header
+header-back h =
+    record {
+      version = h .version;
+      length = h .length;
+      flags = h .flags;
+      code = h .code;
+      «app_id» = h .appId;
+      «hop_id» = h .hopId;
+      «end_id» = h .endId;
+    }
+
+abbrev outcome-back : Answer Message → Parsed
+outcome-back (accepted m) = Accepted (header-back (m .header)) (m .counts .flags)
+outcome-back (refused number amount) =
+    cond (eqb number incomplete) (Incomplete amount) (cond (eqb number notVersion) NotVersion BadLength)
+
+outcome-is-back : (r : Parsed) → outcome-back (answerOf r) ≡ r
+unfolding headerAs answerOf
+outcome-is-back (Accepted h flags) = refl
+outcome-is-back (Incomplete n) = refl
+outcome-is-back NotVersion = refl
+outcome-is-back BadLength = refl
+
+pub header-as-injective : (h h′ : Header) → headerAs h ≡ headerAs h′ → h ≡ h′
+unfolding headerAs
+header-as-injective h h′ e = ap header-back e
+
+pub answer-of-injective : (r r′ : Parsed) → answerOf r ≡ answerOf r′ → r ≡ r′
+answer-of-injective r r′ e = sym (outcome-is-back r) ∙ ap outcome-back e ∙ outcome-is-back r′

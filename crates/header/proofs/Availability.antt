@@ -1,0 +1,38 @@
+-- What an answer of `length` says of the two numbers that it compares. There are two answers, and each follows from one way that
+-- the test goes.
+-- Assumes nothing.
+use Prim.Native.Nat.{ℕ, _-_, _≤_, _<_}
+use mathlib.Core.Path.{_≡_, refl}
+use mathlib.Core.Bool.{Bool, true, false, cond}
+use lib.Dec.{ltb}
+use borrow.Author.Tests.{lt-ltb, le-ltb, ltb-true, ltb-false}
+use Rattle.header.specs.declared.Available.{Available}
+use Rattle.header.specs.declared.Available.the-variants.{Enough, Absent}
+use Rattle.header.specs.Parsed.{availableOf}
+
+module _ (stated available : ℕ) where
+  pub absent : available < stated → Absent (stated - available) ≡ availableOf stated available
+  unfolding availableOf
+  absent h = simp (lt-ltb _ _ h)
+
+  pub enough : stated ≤ available → Enough ≡ availableOf stated available
+  unfolding availableOf
+  enough h = simp (le-ltb _ _ h)
+
+  -- n bytes are absent
+  pub record Missing (n : ℕ) : Type 0 where
+    pub fewer : available < stated
+    pub missing : n ≡ stated - available
+
+  -- what an answer says
+  abbrev pub Says : Available → Type 0
+  Says Enough = stated ≤ available
+  Says (Absent n) = Missing n
+
+  by-test : (b : Bool) → ltb available stated ≡ b → Says (cond b (Absent (stated - available)) Enough)
+  by-test true t = record { fewer = ltb-true _ _ t; missing = refl }
+  by-test false t = ltb-false _ _ t
+
+  pub says : (a : Available) → a ≡ availableOf stated available → Says a
+  unfolding availableOf
+  says a e = rw e (by-test (ltb available stated) refl)

@@ -1,0 +1,4 @@
+pub mod AnswerOf
+pub mod Availability
+pub mod Fields
+pub mod HeaderAlone

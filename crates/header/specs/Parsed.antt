@@ -1,0 +1,38 @@
+-- What reading a header answers, as document 01's answer.
+-- Assumes nothing: these are definitions.
+use Prim.Native.Nat.{ℕ, _-_}
+use mathlib.Core.Bool.{cond}
+use lib.Dec.{ltb}
+use Rattle.rfc6733.specs.Answer.{Answer, accepted, refused, incomplete, notVersion, badLength}
+use Rattle.rfc6733.specs.Header as rfc
+use Rattle.rfc6733.specs.Decoder.{Message}
+use Rattle.header.specs.declared.Header.{Header}
+use Rattle.header.specs.declared.Parsed.{Parsed}
+use Rattle.header.specs.declared.Parsed.the-variants.{Accepted, Incomplete, NotVersion, BadLength}
+use Rattle.header.specs.declared.Available.{Available}
+use Rattle.header.specs.declared.Available.the-variants.{Enough, Absent}
+
+-- a header of the code as one of the definition
+unfoldable pub headerAs : Header → rfc.Header
+headerAs h =
+    record {
+      version = h .version;
+      length = h .length;
+      flags = h .flags;
+      code = h .code;
+      appId = h .«app_id»;
+      hopId = h .«hop_id»;
+      endId = h .«end_id»;
+    }
+
+-- no records, none tried, and 20 as the length
+unfoldable pub answerOf : Parsed → Answer Message
+answerOf (Accepted h flags) =
+    accepted (record { header = headerAs h; counts = record { flags = flags; records = 0; tried = 0; length = rfc.headerSize } })
+answerOf (Incomplete n) = refused incomplete n
+answerOf NotVersion = refused notVersion 0
+answerOf BadLength = refused badLength 0
+
+-- are the bytes of a length at hand, and how many are absent?
+unfoldable pub availableOf : ℕ → ℕ → Available
+availableOf length at-hand = cond (ltb at-hand length) (Absent (length - at-hand)) Enough

@@ -1,0 +1,152 @@
+-- Laws of numbers in bytes. A number of one byte more is the number before times 256 and the last byte, so every law is an
+-- induction over the width whose step is one line of arithmetic: writing and reading are inverse, and a number looks at its own bytes alone.
+-- Assumes nothing.
+use Prim.Native.Nat.{ℕ, zero, suc, _+_, _*_, _/_, _%_, _^_, _≤_, _<_}
+use mathlib.Core.Path.{_≡_, refl, sym, ap, ap₂, _∙_}
+use mathlib.Core.List.{List, [], _∷_, _++_, append-assoc, append-nil}
+use native.Mathlib.Nat.{pow-suc, pow-succ', mod-one, div-one, div-div-eq-div-mul, zero-add, add-zero, add-suc, add-assoc, one-le-pow, zero-lt-suc}
+use native.Mathlib.Omega.{arith}
+use lib.Arith.{mod-mul}
+use lib.ListN.{length, getD, take, drop, length-append, length-drop, List·getD-append}
+use lib.Seq.{getD-append-seam, getD-append-add, getD-take, getD-drop, take-suc, take-all}
+use Rattle.octets.specs.Octets.{be, octets, Field, field, pack, widths, Bytes, Reads}
+
+-- ---- a number looks at its own bytes alone
+
+pub be-same : (n : ℕ) (s t : List ℕ) (i k : ℕ) → ((j : ℕ) → j < n → getD s (i + j) 0 ≡ getD t (k + j) 0) → be n s i ≡ be n t k
+unfolding be
+be-same zero s t i k h = refl
+be-same (suc n) s t i k h = ap₂ (λ (x y : ℕ). x * 256 + y) (be-same n s t i k (λ j l. h j (omega arith))) (h n (omega arith))
+
+pub be-drop : (n : ℕ) (s : List ℕ) (k i : ℕ) → be n (drop k s) i ≡ be n s (k + i)
+be-drop n s k i = be-same n (drop k s) s i (k + i) (λ j l. getD-drop k s (i + j) 0 ∙ ap (λ (x : ℕ). getD s x 0) (sym (add-assoc k i j)))
+
+pub be-take : (n : ℕ) (s : List ℕ) (k i : ℕ) → i + n ≤ k → be n (take k s) i ≡ be n s i
+be-take n s k i h = be-same n (take k s) s i i (λ j l. getD-take k s (i + j) 0 (omega arith))
+
+pub be-front : (n : ℕ) (s t : List ℕ) (i : ℕ) → i + n ≤ length s → be n (s ++ t) i ≡ be n s i
+be-front n s t i h = be-same n (s ++ t) s i i (λ j l. List·getD-append s t 0 (i + j) (omega arith))
+
+pub be-behind : (n : ℕ) (s t : List ℕ) (i : ℕ) → be n (s ++ t) (length s + i) ≡ be n t i
+be-behind n s t i =
+    be-same n (s ++ t) t (length s + i) i
+    (λ j l. ap (λ (x : ℕ). getD (s ++ t) x 0) (add-assoc (length s) i j) ∙ getD-append-add s t (i + j) 0)
+
+-- ---- numbers that code reads from single bytes
+
+-- the n bytes of s from place i on, one by one
+abbrev pub bytes : ℕ → List ℕ → ℕ → List ℕ
+bytes zero s i = []
+bytes (suc n) s i = getD s i 0 ∷ bytes n s (i + 1)
+
+byte-at : (n : ℕ) (s : List ℕ) (i j : ℕ) → j < n → getD (bytes n s i) j 0 ≡ getD s (i + j) 0
+byte-at zero s i j h = absurd (omega arith)
+byte-at (suc n) s i zero h = ap (λ (k : ℕ). getD s k 0) (sym (add-zero i))
+byte-at (suc n) s i (suc j) h = byte-at n s (i + 1) j (omega arith) ∙ ap (λ (k : ℕ). getD s k 0) (omega arith)
+
+pub read-at : (n : ℕ) (s : List ℕ) (i r : ℕ) → Reads n (bytes n s i) r → r ≡ be n s i
+read-at n s i r h = h .is ∙ be-same n (bytes n s i) s 0 i (λ j l. ap (λ (k : ℕ). getD (bytes n s i) k 0) (zero-add j) ∙ byte-at n s i j l)
+
+pub one-byte : (s : List ℕ) (i : ℕ) → be 1 s i ≡ getD s i 0
+unfolding be
+one-byte s i = simp (add-zero, zero-add)
+
+-- ---- lengths and bounds
+
+pub length-octets : (n v : ℕ) → length (octets n v) ≡ n
+unfolding octets
+length-octets zero v = refl
+length-octets (suc n) v = let l = length-octets n (v / 256) in length-append (octets n (v / 256)) (v % 256 ∷ []) ∙ omega arith
+
+pub length-pack : (fs : List Field) → length (pack fs) ≡ widths fs
+length-pack [] = refl
+length-pack (f ∷ fs) =
+    let l = length-octets (f .width) (f .number) in
+    let m = length-pack fs in
+    length-append (octets (f .width) (f .number)) (pack fs) ∙ omega arith
+
+pub be-small : (n : ℕ) (s : List ℕ) (i : ℕ) → Bytes s → be n s i < 256 ^ n
+unfolding be
+be-small zero s i h = omega arith
+be-small (suc n) s i h = rw pow-suc (let l = be-small n s i h in omega (arith, h (i + n)))
+
+-- ---- writing and reading are inverse
+
+pub read-written : (n v : ℕ) → be n (octets n v) 0 ≡ v % 256 ^ n
+unfolding be octets
+read-written zero v = sym (mod-one v)
+read-written (suc n) v =
+    let w = octets n (v / 256) in
+    let l = length-octets n (v / 256) in
+    let high : be n (w ++ (v % 256 ∷ [])) 0 ≡ v / 256 % 256 ^ n = be-front n w (v % 256 ∷ []) 0 (omega arith) ∙ read-written n (v / 256) in
+    let low : getD (w ++ (v % 256 ∷ [])) (0 + n) 0 ≡ v % 256 =
+    ap (λ (x : ℕ). getD (w ++ (v % 256 ∷ [])) x 0) (zero-add n ∙ sym l) ∙ getD-append-seam w (v % 256) [] 0
+    in
+    ap₂ (λ (x y : ℕ). x * 256 + y) high low
+    ∙ sym (ap (λ (x : ℕ). v % x) (pow-suc 256 n) ∙ mod-mul v (one-le-pow n 256 (zero-lt-suc 255)) (zero-lt-suc 255))
+
+pub written-read : (n : ℕ) (s : List ℕ) (i : ℕ) → i + n ≤ length s → Bytes s → octets n (be n s i) ≡ take n (drop i s)
+unfolding be octets
+written-read zero s i h b = refl
+written-read (suc n) s i h b =
+    let x = be n s i in
+    let c = getD s (i + n) 0 in
+    let high : (x * 256 + c) / 256 ≡ x = omega (arith, b (i + n)) in
+    let low : (x * 256 + c) % 256 ≡ c = omega (arith, b (i + n)) in
+    let d = length-drop i s in
+    ap₂ (λ (y z : ℕ). octets n y ++ (z ∷ [])) high low
+    ∙ ap₂ (λ (l : List ℕ) (z : ℕ). l ++ (z ∷ [])) (written-read n s i (omega arith) b) (sym (getD-drop i s n 0))
+    ∙ sym (take-suc (drop i s) n 0 (omega arith))
+
+-- ---- a field of a layout is the number that was packed
+
+pub read-field : (before : List Field) (w v : ℕ) (rest : List Field) (more : List ℕ)
+    → be w (pack (before ++ (field w v ∷ rest)) ++ more) (widths before) ≡ v % 256 ^ w
+read-field [] w v rest more =
+    let l = length-octets w v in
+    ap (λ (s : List ℕ). be w s 0) (append-assoc (octets w v) (pack rest) more)
+    ∙ be-front w (octets w v) (pack rest ++ more) 0 (omega arith)
+    ∙ read-written w v
+read-field (f ∷ fs) w v rest more =
+    let o = octets (f .width) (f .number) in
+    let l = length-octets (f .width) (f .number) in
+    let t = pack (fs ++ (field w v ∷ rest)) in
+    ap (λ (s : List ℕ). be w s (f .width + widths fs)) (append-assoc o t more)
+    ∙ ap (λ (x : ℕ). be w (o ++ (t ++ more)) (x + widths fs)) (sym l)
+    ∙ be-behind w o (t ++ more) (widths fs)
+    ∙ read-field fs w v rest more
+
+-- ---- the parts of a number
+
+pub bytes-append : (s t : List ℕ) → Bytes s → Bytes t → Bytes (s ++ t)
+bytes-append [] t hs ht i = ht i
+bytes-append (x ∷ s) t hs ht zero = hs 0
+bytes-append (x ∷ s) t hs ht (suc i) = bytes-append s t (λ j. hs (suc j)) ht i
+
+single-byte : (v : ℕ) → v < 256 → Bytes (v ∷ [])
+single-byte v h zero = h
+single-byte v h (suc i) = omega arith
+
+pub octets-bytes : (n v : ℕ) → Bytes (octets n v)
+unfolding octets
+octets-bytes zero v i = omega arith
+octets-bytes (suc n) v i =
+    bytes-append (octets n (v / 256)) (v % 256 ∷ []) (octets-bytes n (v / 256)) (single-byte (v % 256) (omega arith)) i
+
+-- only the lowest n bytes are written
+pub written-low : (n v : ℕ) → octets n (v % 256 ^ n) ≡ octets n v
+written-low n v =
+    let l = length-octets n v in
+    ap (octets n) (sym (read-written n v))
+    ∙ written-read n (octets n v) 0 (omega arith) (octets-bytes n v)
+    ∙ take-all n (octets n v) (omega arith)
+
+-- the high bytes and the low ones
+pub written-parts : (m n v : ℕ) → octets (m + n) v ≡ octets m (v / 256 ^ n) ++ octets n v
+unfolding octets
+written-parts m zero v = ap₂ octets (add-zero m) (sym (div-one v)) ∙ sym (append-nil (octets m (v / 1)))
+written-parts m (suc n) v =
+    ap (λ (k : ℕ). octets k v) (add-suc m n)
+    ∙ ap (λ (l : List ℕ). l ++ (v % 256 ∷ [])) (written-parts m n (v / 256))
+    ∙ append-assoc (octets m (v / 256 / 256 ^ n)) (octets n (v / 256)) (v % 256 ∷ [])
+    ∙ ap (λ (q : ℕ). octets m q ++ octets (suc n) v) (div-div-eq-div-mul v 256 (256 ^ n) ∙ ap (λ (d : ℕ). v / d) (sym (pow-succ' 256 n)))

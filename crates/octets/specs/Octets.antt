@@ -1,0 +1,47 @@
+-- Numbers in bytes, the highest byte first (RFC 6733, section 3: network byte order), said once over the width; and layouts of them.
+-- Assumes nothing: these are definitions.
+use Prim.Native.Nat.{ℕ, zero, suc, _+_, _*_, _/_, _%_, _^_, _<_}
+use mathlib.Core.Path.{_≡_}
+use mathlib.Core.List.{List, [], _∷_, _++_}
+use lib.ListN.{length, getD, drop}
+
+-- reading: the number that n bytes write, from place i on. A byte that is absent counts as 0
+unfoldable pub be : ℕ → List ℕ → ℕ → ℕ
+be zero s i = 0
+be (suc n) s i = be n s i * 256 + getD s (i + n) 0
+
+-- writing: the lowest n bytes of a number
+unfoldable pub octets : ℕ → ℕ → List ℕ
+octets zero v = []
+octets (suc n) v = octets n (v / 256) ++ (v % 256 ∷ [])
+
+-- A field of a layout: how many bytes, and the number in them.
+pub record Field : Type 0 where
+  pub width : ℕ
+  pub number : ℕ
+
+abbrev pub field : ℕ → ℕ → Field
+field w v = record { width = w; number = v }
+
+-- the fields of a layout, one after the other
+abbrev pub pack : List Field → List ℕ
+pack [] = []
+pack (f ∷ fs) = octets (f .width) (f .number) ++ pack fs
+
+-- how many bytes they take
+abbrev pub widths : List Field → ℕ
+widths [] = 0
+widths (f ∷ fs) = f .width + widths fs
+
+-- some bytes over the front of others
+unfoldable pub over : List ℕ → List ℕ → List ℕ
+over new old = new ++ drop (length new) old
+
+-- every number of a list is a byte
+abbrev pub Bytes : List ℕ → Type 0
+Bytes s = (i : ℕ) → getD s i 0 < 256
+
+-- r is the number that the n bytes of s write
+pub record Reads (n : ℕ) (s : List ℕ) (r : ℕ) : Type 0 where
+  pub is : r ≡ be n s 0
+  pub small : r < 256 ^ n

@@ -1,0 +1,108 @@
+-- A run is its first AVP alone and what follows it: every count of the run is that of the one joined with that of the other. An
+-- AVP's own bytes are a run of one, so a reader of AVPs has the same contract as a reader of runs.
+-- Assumes nothing.
+use Prim.Native.Nat.{ℕ, _+_, _≤_, _<_, max}
+use mathlib.Core.Path.{_≡_, refl, sym, ap, ap₂, _∙_}
+use mathlib.Core.Bool.{Bool, true, false, cond}
+use mathlib.Core.List.{List, [], _∷_, _++_, append-nil}
+use native.Mathlib.Nat.{add-zero}
+use native.Mathlib.Omega.{arith}
+use lib.ListN.{length, take, drop, drop-of-length-le}
+use lib.Seq.{take-all}
+use Rattle.octets.specs.Run.{item, after, Tree, done, broken, plain, group, node, tree, tiles, tried, deepest}
+use Rattle.octets.proofs.Runs.{Parts, parts, tree-none, tree-step}
+use Rattle.rfc6733.specs.Flags.{join}
+use Rattle.rfc6733.specs.Avp.{avpSize, payload, complete, Exact}
+use Rattle.rfc6733.specs.Dictionary.{Dictionary}
+use Rattle.rfc6733.specs.Record.{Record, avps, errors, records, recordCount}
+use Rattle.rfc6733.proofs.Joins.{join-zero}
+use Rattle.rfc6733.proofs.Complete.{complete-whole, whole-complete}
+use Rattle.rfc6733.proofs.Items.{sound, item-same, item-length, item-whole}
+
+-- the tree of one AVP
+unfoldable pub alone : Dictionary → List ℕ → Tree
+alone D a = node true (avps D .nested a) a (tree (avps D) (payload a)) done
+
+pub exact-tree : (D : Dictionary) (a : List ℕ) → Exact a → tree (avps D) a ≡ alone D a
+unfolding alone item after
+exact-tree D a e =
+    let p = parts (avps D) (sound (avps D .nested)) a (e .whole) in
+    let own : take (avpSize a) a ≡ a = take-all (avpSize a) a (omega (arith, e .size-is)) in
+    let rest : tree (avps D) (drop (avpSize a) a) ≡ done =
+    ap (tree (avps D)) (drop-of-length-le a {i = avpSize a} (omega (arith, e .size-is))) ∙ tree-none (avps D)
+    in
+    tree-step (avps D) (sound (avps D .nested)) a (omega arith) ∙ rw (own, rest, e .whole)
+
+-- the first AVP of a run is exact
+pub item-exact : (D : Dictionary) (s : List ℕ) → complete s ≡ true → Exact (item (avps D) s)
+item-exact D s e =
+    let w = complete-whole s e in
+    record {
+      whole = whole-complete (item (avps D) s) (item-whole (avps D .nested) s w);
+      size-is = item-same (avps D .nested) s w .size-is ∙ sym (item-length (avps D .nested) s w);
+    }
+
+-- ---- how a run is made up
+
+-- t is the AVP a, whose bytes are n, with r after it
+pub record Joined (D : Dictionary) (n : ℕ) (t a r : Tree) : Type 0 where
+  pub tiles-is : tiles t ≡ tiles r
+  pub count-is : recordCount t ≡ recordCount a + recordCount r
+  pub tried-is : tried t ≡ tried a + tried r
+  pub deepest-is : deepest t ≡ max (deepest a) (deepest r)
+  pub errors-are : errors D t ≡ join (errors D a) (errors D r)
+  pub records-are : (place depth : ℕ) → records D place depth t ≡ records D place depth a ++ records D (place + n) depth r
+
+joined-node : (D : Dictionary) (b : Bool) (a : List ℕ) (i r : Tree) → Joined D (length a) (node true b a i r) (node true b a i done) r
+joined-node D true a i r =
+    record {
+      tiles-is = refl;
+      count-is = omega arith;
+      tried-is = omega arith;
+      deepest-is = omega arith;
+      errors-are = ap (λ (x : ℕ). join x (errors D r)) (sym (join-zero _));
+      records-are = λ place depth. simp append-nil;
+    }
+joined-node D false a i r =
+    record {
+      tiles-is = refl;
+      count-is = omega arith;
+      tried-is = omega arith;
+      deepest-is = omega arith;
+      errors-are = ap (λ (x : ℕ). join x (errors D r)) (sym (join-zero _));
+      records-are = λ place depth. refl;
+    }
+
+pub joined : (D : Dictionary) (s : List ℕ) → complete s ≡ true
+    → Joined D (avpSize s) (tree (avps D) s) (tree (avps D) (item (avps D) s)) (tree (avps D) (after (avps D) s))
+unfolding alone
+joined D s e =
+    let w = complete-whole s e in
+    let p = parts (avps D) (sound (avps D .nested)) s e in
+    let a = item (avps D) s in
+    let t : tree (avps D) s ≡ node true (avps D .nested a) a (tree (avps D) (payload a)) (tree (avps D) (after (avps D) s)) =
+    tree-step (avps D) (sound (avps D .nested)) s (omega arith) ∙ rw e
+    in
+    let j = joined-node D (avps D .nested a) a (tree (avps D) (payload a)) (tree (avps D) (after (avps D) s)) in
+    rw (t, exact-tree D a (item-exact D s e)) (rw (item-length (avps D .nested) s w) at j)
+
+-- ---- one AVP, entered or not
+
+pub alone-plain : (D : Dictionary) (a : List ℕ) → avps D .nested a ≡ false → alone D a ≡ plain a done
+unfolding alone
+alone-plain D a e = rw e
+
+pub alone-group : (D : Dictionary) (a : List ℕ) → avps D .nested a ≡ true → alone D a ≡ group a (tree (avps D) (payload a)) done
+unfolding alone
+alone-group D a e = rw e
+
+-- a byte left is a header tried
+pub some-tried : (D : Dictionary) (s : List ℕ) → 0 < length s → (1 ≤ deepest (tree (avps D) s)) × (1 ≤ tried (tree (avps D) s))
+some-tried D s pos =
+    rw (tree-step (avps D) (sound (avps D .nested)) s pos)
+    (by (complete s) (avps D .nested (item (avps D) s)) (tree (avps D) (payload (item (avps D) s))) (tree (avps D) (after (avps D) s)))
+  where
+    by : (c b : Bool) (i r : Tree) → (1 ≤ deepest (node c b (item (avps D) s) i r)) × (1 ≤ tried (node c b (item (avps D) s) i r))
+    by false b i r = (omega arith, omega arith)
+    by true false i r = (omega arith, omega arith)
+    by true true i r = (omega arith, omega arith)

@@ -1,0 +1,87 @@
+-- An acceptance is given exactly where no refusal is, and returns what it was to return.
+-- Assumes nothing.
+use Prim.Native.Nat.{ℕ, _≤_}
+use mathlib.Core.Path.{_≡_, refl, sym, ap₂}
+use mathlib.Core.Bool.{Bool, true, false, cond, not, _&&_}
+use mathlib.Core.List.{List, [], _∷_, _++_}
+use native.Mathlib.Omega.{arith}
+use lib.Dec.{ltb}
+use borrow.Author.Tests.{ltb-false, le-ltb, not-true, not-false}
+use Rattle.octets.proofs.Runs.{false-true}
+use Rattle.rfc6733.specs.Answer.{Answer, accepted, refused, Refusal, answer, passes}
+
+same-number : {A : Type 0} {m n a b : ℕ} → _≡_ {A = Answer A} (refused m a) (refused n b) → m ≡ n
+same-number e = cc
+
+same-amount : {A : Type 0} {m n a b : ℕ} → _≡_ {A = Answer A} (refused m a) (refused n b) → a ≡ b
+same-amount e = cc
+
+pub not-accepted : {A : Type 0} {n a : ℕ} {x : A} → refused n a ≡ accepted x → ⊥
+not-accepted e = let z : _≡_ {A = ℕ} 0 1 = cc in omega arith
+
+-- both of two tests
+pub and-true : (a b : Bool) → a && b ≡ true → (a ≡ true) × (b ≡ true)
+and-true true b e = (refl, e)
+and-true false b e = absurd (false-true e)
+
+pub true-and : {a b : Bool} → a ≡ true → b ≡ true → a && b ≡ true
+true-and e f = rw (e, f)
+
+-- a test that did not refuse
+pub kept-lt : (m n : ℕ) → not (ltb m n) ≡ true → n ≤ m
+kept-lt m n e = ltb-false m n (not-true (ltb m n) e)
+
+pub lt-kept : (m n : ℕ) → n ≤ m → not (ltb m n) ≡ true
+lt-kept m n h = rw (le-ltb m n h)
+
+pub kept-not : (b : Bool) → not (not b) ≡ true → b ≡ true
+kept-not b e = not-false b (not-true (not b) e)
+
+module _ {A : Type 0} where
+  pub passed : (rs : List Refusal) (x y : A) → answer rs x ≡ accepted y → (passes rs ≡ true) × (x ≡ y)
+  passed [] x y e = (refl, cc)
+  passed (r ∷ rs) x y e = by (r .given) (passed rs x y) e
+    where
+      by : (b : Bool) → (answer rs x ≡ accepted y → (passes rs ≡ true) × (x ≡ y))
+          → cond b (refused (r .number) (r .amount)) (answer rs x) ≡ accepted y → (not b && passes rs ≡ true) × (x ≡ y)
+      by true rest f = absurd (not-accepted f)
+      by false rest f = rest f
+
+  pub accepts : (rs : List Refusal) (x : A) → passes rs ≡ true → answer rs x ≡ accepted x
+  accepts [] x e = refl
+  accepts (r ∷ rs) x e = by (r .given) (accepts rs x) e
+    where
+      by : (b : Bool) → (passes rs ≡ true → answer rs x ≡ accepted x) → not b && passes rs ≡ true
+          → cond b (refused (r .number) (r .amount)) (answer rs x) ≡ accepted x
+      by true rest f = absurd (false-true f)
+      by false rest f = rest f
+
+pub passes-append : (rs ts : List Refusal) → passes (rs ++ ts) ≡ passes rs && passes ts
+passes-append [] ts = refl
+passes-append (r ∷ rs) ts = by (r .given) (passes-append rs ts)
+  where
+    by : (b : Bool) → passes (rs ++ ts) ≡ passes rs && passes ts → not b && passes (rs ++ ts) ≡ not b && passes rs && passes ts
+    by true rest = refl
+    by false rest = rest
+
+-- ---- refusals before others
+
+pub answer-past : {A : Type 0} (rs ts : List Refusal) (x : A) → passes rs ≡ true → answer (rs ++ ts) x ≡ answer ts x
+answer-past [] ts x e = refl
+answer-past (r ∷ rs) ts x e = by (r .given) (answer-past rs ts x) e
+  where
+    by : (b : Bool) → (passes rs ≡ true → answer (rs ++ ts) x ≡ answer ts x) → not b && passes rs ≡ true
+        → cond b (refused (r .number) (r .amount)) (answer (rs ++ ts) x) ≡ answer ts x
+    by true rest f = absurd (false-true f)
+    by false rest f = rest f
+
+-- what was refused before is refused with any others after
+pub answer-first : {A B : Type 0} (rs ts : List Refusal) (x : A) (y : B) (n a : ℕ) → answer rs x ≡ refused n a → answer (rs ++ ts) y ≡ refused n a
+answer-first [] ts x y n a e = absurd (not-accepted (sym e))
+answer-first (r ∷ rs) ts x y n a e = by (r .given) (answer-first rs ts x y n a) e
+  where
+    by : (b : Bool) → (answer rs x ≡ refused n a → answer (rs ++ ts) y ≡ refused n a)
+        → cond b (refused (r .number) (r .amount)) (answer rs x) ≡ refused n a
+        → cond b (refused (r .number) (r .amount)) (answer (rs ++ ts) y) ≡ refused n a
+    by true rest f = ap₂ refused (same-number f) (same-amount f)
+    by false rest f = rest f

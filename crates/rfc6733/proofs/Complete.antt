@@ -1,0 +1,78 @@
+-- What a complete AVP is: the sentence of document 01 as a consequence of the refusals in order. Its header is two or three
+-- words, so with its padding it is a whole number of words, and at least two.
+-- Assumes nothing.
+use Prim.Native.Nat.{ℕ, _+_, _-_, _%_, _≤_}
+use mathlib.Core.Path.{_≡_, refl}
+use mathlib.Core.Bool.{Bool, true, false, cond, not, _&&_}
+use mathlib.Core.List.{List}
+use native.Mathlib.Omega.{arith}
+use lib.ListN.{length}
+use lib.Dec.{ltb}
+use Rattle.rfc6733.specs.Flags.{bit}
+use Rattle.rfc6733.specs.Avp.{flags, avpLength, vendorBit, headSize, dataSize, padding, avpSize, avpRefusals, complete}
+use Rattle.rfc6733.proofs.Answers.{and-true, true-and, kept-lt, lt-kept}
+
+-- a header is two or three words
+pub record Head (f : ℕ) : Type 0 where
+  pub low : 8 ≤ headSize f
+  pub high : headSize f ≤ 12
+  pub words : headSize f % 4 ≡ 0
+
+head-by : (b : Bool) → (8 ≤ cond b 12 8) × (cond b 12 8 ≤ 12) × (cond b 12 8 % 4 ≡ 0)
+head-by true = omega arith
+head-by false = omega arith
+
+pub head : (f : ℕ) → Head f
+unfolding headSize
+head f = let w = head-by (bit vendorBit f) in record { low = w .0; high = w .1; words = w .2 }
+
+-- Document 01: an AVP isn't complete if its 8 bytes are absent, its length is below 8, exceeds what is left or (vendor bit
+-- set) is below 12, or its padding is absent. (A header is at least 8 bytes, and the padded size at least the length.)
+pub record Whole (s : List ℕ) : Type 0 where
+  pub eight : 8 ≤ length s
+  pub long : headSize (flags s) ≤ avpLength s
+  pub room : avpSize s ≤ length s
+
+-- with its padding an AVP is its header and its data in whole words
+pub record Sizes (s : List ℕ) : Type 0 where
+  pub padding-is : avpSize s ≡ avpLength s + padding (dataSize s)
+  pub few : padding (dataSize s) ≤ 3
+  pub even : (dataSize s + padding (dataSize s)) % 4 ≡ 0
+  pub data-is : dataSize s ≡ avpLength s - headSize (flags s)
+
+padding-few : (n : ℕ) → (padding n ≤ 3) × ((n + padding n) % 4 ≡ 0)
+unfolding padding
+padding-few n = omega arith
+
+pub sizes : (s : List ℕ) → Sizes s
+unfolding avpSize dataSize
+sizes s = let p = padding-few (dataSize s) in record { padding-is = refl; few = p .0; even = p .1; data-is = refl }
+
+pub complete-whole : (s : List ℕ) → complete s ≡ true → Whole s
+unfolding complete avpRefusals
+complete-whole s e =
+    let t4 = and-true (not (ltb (length s) 4)) _ e in
+    let t5 = and-true (not (ltb (length s) 5)) _ (t4 .1) in
+    let t8 = and-true (not (ltb (length s) 8)) _ (t5 .1) in
+    let l8 = and-true (not (ltb (avpLength s) 8)) _ (t8 .1) in
+    let there = and-true (not (ltb (length s) (avpLength s))) _ (l8 .1) in
+    let long = and-true (not (ltb (avpLength s) (headSize (flags s)))) _ (there .1) in
+    let padded = and-true (not (ltb (length s) (avpSize s))) _ (long .1) in
+    record {
+      eight = kept-lt (length s) 8 (t8 .0);
+      long = kept-lt (avpLength s) (headSize (flags s)) (long .0);
+      room = kept-lt (length s) (avpSize s) (padded .0);
+    }
+
+pub whole-complete : (s : List ℕ) → Whole s → complete s ≡ true
+unfolding complete avpRefusals
+whole-complete s w =
+    let h = head (flags s) in
+    let z = sizes s in
+    true-and (lt-kept (length s) 4 (omega arith))
+    (true-and (lt-kept (length s) 5 (omega arith))
+    (true-and (lt-kept (length s) 8 (omega arith))
+    (true-and (lt-kept (avpLength s) 8 (omega arith))
+    (true-and (lt-kept (length s) (avpLength s) (omega arith))
+    (true-and (lt-kept (avpLength s) (headSize (flags s)) (omega arith))
+    (true-and (lt-kept (length s) (avpSize s) (omega arith)) refl))))))

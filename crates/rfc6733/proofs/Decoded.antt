@@ -1,0 +1,138 @@
+-- `decoded` and `avpAlone` by cases: which facts lead to which answer, in the order of the refusals. Both start with the limit and
+-- what stands at the front, and end with the run's own refusals.
+-- Assumes nothing.
+use Prim.Native.Nat.{ℕ, _≤_, _<_}
+use mathlib.Core.Path.{_≡_, refl, sym, ap, _∙_}
+use mathlib.Core.Bool.{Bool, true, false, cond, not, _&&_}
+use mathlib.Core.List.{List, [], _∷_, _++_}
+use native.Mathlib.Omega.{arith}
+use lib.ListN.{length}
+use lib.Dec.{leb, ltb}
+use borrow.Author.Tests.{lt-ltb, le-ltb, le-leb, lt-leb}
+use Rattle.octets.specs.Run.{Tree, tiles, deepest}
+use Rattle.rfc6733.specs.Answer.{Answer, accepted, refused, Refusal, refuse, answer, passes, notTiled, tooDeep, noRecords, badDepth}
+use Rattle.rfc6733.specs.Header.{headerRefusals}
+use Rattle.rfc6733.specs.Avp.{avpRefusals}
+use Rattle.rfc6733.specs.Dictionary.{Dictionary}
+use Rattle.rfc6733.specs.Record.{Record, recordCount}
+use Rattle.rfc6733.specs.Decoder.{limitRefusals, runRefusals, headerAlone, messageRun, messageRecords, messageRefusals, messageOf, decoded, aloneRun, aloneRecords, aloneRefusals, aloneOf, avpAlone}
+use Rattle.rfc6733.proofs.Answers.{answer-past, answer-first, passed}
+use Rattle.rfc6733.proofs.RunRecords.{records-count}
+
+-- ---- the limit
+
+module _ {A : Type 0} (limit : ℕ) (rs : List Refusal) (x : A) where
+  limit-under : limit < 1 → refused badDepth 0 ≡ answer (limitRefusals limit ++ rs) x
+  limit-under h = simp (lt-leb 1 limit h)
+
+  limit-over : 64 < limit → refused badDepth 0 ≡ answer (limitRefusals limit ++ rs) x
+  limit-over h = simp (le-leb 1 limit (omega arith), lt-leb limit 64 h)
+
+  limit-good : 1 ≤ limit → limit ≤ 64 → answer rs x ≡ answer (limitRefusals limit ++ rs) x
+  limit-good low high = simp (le-leb 1 limit low, le-leb limit 64 high)
+
+-- ---- a run that is refused, or not
+
+module _ {A : Type 0} (limit room : ℕ) (t : Tree) (rs : List Record) (x : A) where
+  deeper : limit < deepest t → refused tooDeep 0 ≡ answer (runRefusals limit room t rs) x
+  deeper h = simp (lt-ltb limit (deepest t) h)
+
+  module _ (shallow : deepest t ≤ limit) (count : length rs ≡ recordCount t) where
+    more-records : room < recordCount t → refused noRecords (recordCount t) ≡ answer (runRefusals limit room t rs) x
+    more-records h = simp (le-ltb limit (deepest t) shallow, count, lt-ltb room (recordCount t) h)
+
+    fits : recordCount t ≤ room → accepted x ≡ answer (runRefusals limit room t rs) x
+    fits h = simp (le-ltb limit (deepest t) shallow, count, le-ltb room (recordCount t) h)
+
+-- ---- a message
+
+module _ (D : Dictionary) (limit room : ℕ) (s : List ℕ) where
+  abbrev rest : List Refusal
+  rest = refuse (not (tiles (messageRun D s))) notTiled 0 ∷ runRefusals limit room (messageRun D s) (messageRecords D s)
+
+  pub message-limit-under : limit < 1 → refused badDepth 0 ≡ decoded D limit room s
+  unfolding decoded messageRefusals
+  message-limit-under h = limit-under limit (headerRefusals s ++ rest) (messageOf D s) h
+
+  pub message-limit-over : 64 < limit → refused badDepth 0 ≡ decoded D limit room s
+  unfolding decoded messageRefusals
+  message-limit-over h = limit-over limit (headerRefusals s ++ rest) (messageOf D s) h
+
+  module _ (low : 1 ≤ limit) (high : limit ≤ 64) where
+    -- the header's refusal is the message's
+    pub header-refused : (n a : ℕ) → refused n a ≡ headerAlone s → refused n a ≡ decoded D limit room s
+    unfolding decoded messageRefusals headerAlone
+    header-refused n a e =
+        sym (answer-first (headerRefusals s) rest _ (messageOf D s) n a (sym e))
+        ∙ limit-good limit (headerRefusals s ++ rest) (messageOf D s) low high
+
+    module _ (header : passes (headerRefusals s) ≡ true) where
+      past : answer rest (messageOf D s) ≡ decoded D limit room s
+      unfolding decoded messageRefusals
+      past =
+          sym (answer-past (headerRefusals s) rest (messageOf D s) header)
+          ∙ limit-good limit (headerRefusals s ++ rest) (messageOf D s) low high
+
+      pub message-not-tiled : tiles (messageRun D s) ≡ false → refused notTiled 0 ≡ decoded D limit room s
+      message-not-tiled e = rw e at past
+
+      module _ (tiled : tiles (messageRun D s) ≡ true) where
+        tiles-past : answer (runRefusals limit room (messageRun D s) (messageRecords D s)) (messageOf D s) ≡ decoded D limit room s
+        tiles-past = rw tiled at past
+
+        pub message-too-deep : limit < deepest (messageRun D s) → refused tooDeep 0 ≡ decoded D limit room s
+        message-too-deep h = deeper limit room (messageRun D s) (messageRecords D s) (messageOf D s) h ∙ tiles-past
+
+        module _ (shallow : deepest (messageRun D s) ≤ limit) where
+          count : length (messageRecords D s) ≡ recordCount (messageRun D s)
+          unfolding messageRecords
+          count = records-count D 20 1 (messageRun D s)
+
+          pub message-no-records : room < recordCount (messageRun D s) → refused noRecords (recordCount (messageRun D s)) ≡ decoded D limit room s
+          message-no-records h = more-records limit room (messageRun D s) (messageRecords D s) (messageOf D s) shallow count h ∙ tiles-past
+
+          pub message-accepted : recordCount (messageRun D s) ≤ room → accepted (messageOf D s) ≡ decoded D limit room s
+          message-accepted h = fits limit room (messageRun D s) (messageRecords D s) (messageOf D s) shallow count h ∙ tiles-past
+
+-- ---- one AVP alone
+
+module _ (D : Dictionary) (limit room : ℕ) (s : List ℕ) where
+  abbrev alone-rest : List Refusal
+  alone-rest = runRefusals limit room (aloneRun D s) (aloneRecords D s)
+
+  pub alone-limit-under : limit < 1 → refused badDepth 0 ≡ avpAlone D limit room s
+  unfolding avpAlone aloneRefusals
+  alone-limit-under h = limit-under limit (avpRefusals s ++ alone-rest) (aloneOf D s) h
+
+  pub alone-limit-over : 64 < limit → refused badDepth 0 ≡ avpAlone D limit room s
+  unfolding avpAlone aloneRefusals
+  alone-limit-over h = limit-over limit (avpRefusals s ++ alone-rest) (aloneOf D s) h
+
+  module _ (low : 1 ≤ limit) (high : limit ≤ 64) where
+    -- the refusal of what stands at the front
+    pub front-refused : {A : Type 0} (x : A) (n a : ℕ) → answer (avpRefusals s) x ≡ refused n a → refused n a ≡ avpAlone D limit room s
+    unfolding avpAlone aloneRefusals
+    front-refused x n a e =
+        sym (answer-first (avpRefusals s) alone-rest x (aloneOf D s) n a e)
+        ∙ limit-good limit (avpRefusals s ++ alone-rest) (aloneOf D s) low high
+
+    module _ (front : passes (avpRefusals s) ≡ true) where
+      alone-past : answer alone-rest (aloneOf D s) ≡ avpAlone D limit room s
+      unfolding avpAlone aloneRefusals
+      alone-past =
+          sym (answer-past (avpRefusals s) alone-rest (aloneOf D s) front)
+          ∙ limit-good limit (avpRefusals s ++ alone-rest) (aloneOf D s) low high
+
+      pub alone-too-deep : limit < deepest (aloneRun D s) → refused tooDeep 0 ≡ avpAlone D limit room s
+      alone-too-deep h = deeper limit room (aloneRun D s) (aloneRecords D s) (aloneOf D s) h ∙ alone-past
+
+      module _ (shallow : deepest (aloneRun D s) ≤ limit) where
+        alone-count : length (aloneRecords D s) ≡ recordCount (aloneRun D s)
+        unfolding aloneRecords
+        alone-count = records-count D 0 1 (aloneRun D s)
+
+        pub alone-no-records : room < recordCount (aloneRun D s) → refused noRecords (recordCount (aloneRun D s)) ≡ avpAlone D limit room s
+        alone-no-records h = more-records limit room (aloneRun D s) (aloneRecords D s) (aloneOf D s) shallow alone-count h ∙ alone-past
+
+        pub alone-accepted : recordCount (aloneRun D s) ≤ room → accepted (aloneOf D s) ≡ avpAlone D limit room s
+        alone-accepted h = fits limit room (aloneRun D s) (aloneRecords D s) (aloneOf D s) shallow alone-count h ∙ alone-past

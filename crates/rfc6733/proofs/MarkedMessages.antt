@@ -1,0 +1,23 @@
+-- P1 to P13 of document 01, in both readings, by one computation of the definition.
+-- Assumes nothing.
+use mathlib.Core.Path.{_≡_, refl}
+use mathlib.Core.List.{List, map}
+use Rattle.octets.specs.Octets.{be}
+use Rattle.octets.specs.Run.{item, after, treeIn, tree}
+use Rattle.rfc3629.specs.Utf8.{charSize, wellFormed}
+use Rattle.rfc6733.specs.Flags.{bit, join}
+use Rattle.rfc6733.specs.Header.{headerOf, headerErrors, headerRefusals}
+use Rattle.rfc6733.specs.Avp.{headSize, vendor, dataSize, padding, avpSize, payload, pads, avpRefusals, complete}
+use Rattle.rfc6733.specs.Value.{fixed, text, readAs}
+use Rattle.rfc6733.specs.Dictionary.{familyAddress, bareAddress, rfc, sawp}
+use Rattle.rfc6733.specs.Record.{kindOf, valueOf, ownErrors, recordOf, groupValue}
+use Rattle.rfc6733.specs.Decoder.{messageBody, messageRun, messageRecords, messageRefusals, messageOf, decoded}
+use Rattle.rfc6733.specs.Dump.{Dump, dump}
+use Rattle.rfc6733.specs.Marked.{Case, marked, shown}
+
+abbrev expected : List Dump
+expected = map (λ (c : Case). c .shows) marked
+
+pub marked-messages : (map (shown sawp) marked ≡ expected) × (map (shown rfc) marked ≡ expected)
+unfolding be item after treeIn tree charSize wellFormed bit join headerOf headerErrors headerRefusals headSize vendor dataSize padding avpSize payload pads avpRefusals complete fixed text readAs familyAddress bareAddress rfc sawp kindOf valueOf ownErrors recordOf groupValue messageBody messageRun messageRecords messageRefusals messageOf decoded dump
+marked-messages = (refl, refl)

@@ -1,0 +1,62 @@
+-- A message that the writer's definition makes has a header that is not refused and states its length, and its AVPs are the
+-- body that it was made of: each field of the header is read back where it was packed.
+-- Assumes nothing.
+use Prim.Native.Nat.{ℕ, _+_, _-_, _%_, _^_, _≤_}
+use mathlib.Core.Path.{_≡_, refl, sym, ap, ap₂, _∙_}
+use mathlib.Core.Bool.{true, not}
+use mathlib.Core.List.{List, [], _∷_, _++_}
+use native.Mathlib.Omega.{arith}
+use lib.ListN.{length, take, drop, length-append}
+use lib.Seq.{drop-at, take-all}
+use lib.Dec.{ltb, eqb}
+use borrow.Author.Tests.{le-ltb, eq-eqb}
+use Rattle.octets.specs.Octets.{be, Field, field, pack}
+use Rattle.octets.proofs.Numbers.{length-pack, read-field}
+use Rattle.rfc6733.specs.Answer.{passes}
+use Rattle.rfc6733.specs.Header.{messageLength, headerRefusals}
+use Rattle.rfc6733.specs.Decoder.{messageBody}
+use Rattle.rfc6733.specs.Writer.{Fields, most24, messageBytes}
+
+-- the fields of a message's header
+abbrev headerFields : Fields → ℕ → List Field
+headerFields f n =
+    field 1 1
+    ∷ field 3 n
+    ∷ field 1 (f .flags)
+    ∷ field 3 (f .code)
+    ∷ field 4 (f .appId)
+    ∷ field 4 (f .hopId)
+    ∷ field 4 (f .endId)
+    ∷ []
+
+pub record Read (s body : List ℕ) : Type 0 where
+  pub length-is : length s ≡ 20 + length body
+  pub stated : messageLength s ≡ 20 + length body
+  pub header : passes (headerRefusals s) ≡ true
+  pub body-is : messageBody s ≡ body
+
+pub message-read : (f : Fields) (body : List ℕ) → 20 + length body ≤ most24 → Read (messageBytes f body) body
+unfolding messageBytes headerRefusals messageBody
+message-read f body le =
+    let n = 20 + length body in
+    let s = messageBytes f body in
+    let l : length (pack (headerFields f n)) ≡ 20 = length-pack (headerFields f n) in
+    let all : length s ≡ n = length-append (pack (headerFields f n)) body ∙ omega arith in
+    let version : be 1 s 0 ≡ 1 = read-field [] 1 1 (drop 1 (headerFields f n)) body in
+    let stated : messageLength s ≡ n = read-field (field 1 1 ∷ []) 3 n (drop 2 (headerFields f n)) body ∙ omega arith in
+    record {
+      length-is = all;
+      stated = stated;
+      header =
+          simp (
+            le-ltb (length s) 1 (omega arith),
+            eq-eqb (be 1 s 0) 1 version,
+            le-ltb (length s) 4 (omega arith),
+            le-ltb (messageLength s) 4 (omega arith),
+            le-ltb (length s) (messageLength s) (omega arith),
+            le-ltb (messageLength s) 20 (omega arith),
+          );
+      body-is =
+          ap₂ (λ (m : ℕ) (t : List ℕ). take m t) (ap (λ (m : ℕ). m - 20) stated) (drop-at (pack (headerFields f n)) body 20 l)
+          ∙ take-all (n - 20) body (omega arith);
+    }

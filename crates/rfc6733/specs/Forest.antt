@@ -1,0 +1,34 @@
+-- A table of records as a forest: each record with its members under it. It is built from the last record on, with no count.
+-- Assumes nothing: these are definitions.
+use Prim.Native.Nat.{ℕ, _+_}
+use mathlib.Core.Bool.{cond}
+use mathlib.Core.List.{List, [], _∷_, _++_}
+use lib.Dec.{leb}
+use Rattle.rfc6733.specs.Record.{Record}
+
+-- no record; or a record, its members, and what follows them
+pub data Forest : Type 0 where
+  none : Forest
+  node : Record → Forest → Forest → Forest
+
+-- the leading ones of depth d or deeper, and what is after them
+abbrev pub front : ℕ → Forest → Forest
+front d none = none
+front d (node r members rest) = cond (leb d (r .depth)) (node r members (front d rest)) none
+
+abbrev pub behind : ℕ → Forest → Forest
+behind d none = none
+behind d (node r members rest) = cond (leb d (r .depth)) (behind d rest) (node r members rest)
+
+-- a record before a forest: the leading ones that are deeper are its members
+abbrev pub plant : Record → Forest → Forest
+plant r f = node r (front (r .depth + 1) f) (behind (r .depth + 1) f)
+
+abbrev pub forest : List Record → Forest
+forest [] = none
+forest (r ∷ rs) = plant r (forest rs)
+
+-- the records again, a group before its members
+abbrev pub flat : Forest → List Record
+flat none = []
+flat (node r members rest) = r ∷ (flat members ++ flat rest)

@@ -1,0 +1,74 @@
+-- The header of a message (RFC 6733, section 3): its fields, its flags, and how it is refused.
+-- Assumes nothing: these are definitions.
+use Prim.Native.Nat.{ℕ, _-_, _%_, _^_}
+use mathlib.Core.Bool.{not}
+use mathlib.Core.List.{List, [], _∷_}
+use lib.ListN.{length}
+use lib.Dec.{ltb, eqb}
+use Rattle.octets.specs.Octets.{be}
+use Rattle.rfc6733.specs.Flags.{nonZeroReserved, flag}
+use Rattle.rfc6733.specs.Answer.{Refusal, refuse, incomplete, notVersion, badLength}
+
+-- version 1 byte, length 3, flags 1, command code 3, application 4, hop-by-hop 4, end-to-end 4
+pub record Header : Type 0 where
+  pub version : ℕ
+  pub length : ℕ
+  pub flags : ℕ
+  pub code : ℕ
+  pub appId : ℕ
+  pub hopId : ℕ
+  pub endId : ℕ
+
+abbrev pub headerSize : ℕ
+headerSize = 20
+
+-- the length that the header states, of the whole message
+abbrev pub messageLength : List ℕ → ℕ
+messageLength s = be 3 s 1
+
+unfoldable pub headerOf : List ℕ → Header
+headerOf s =
+    record {
+      version = be 1 s 0;
+      length = messageLength s;
+      flags = be 1 s 4;
+      code = be 3 s 5;
+      appId = be 4 s 8;
+      hopId = be 4 s 12;
+      endId = be 4 s 16;
+    }
+
+-- the command flags, R P E T and four that are reserved
+abbrev pub requestBit : ℕ
+requestBit = 7
+
+abbrev pub proxiableBit : ℕ
+proxiableBit = 6
+
+abbrev pub errorBit : ℕ
+errorBit = 5
+
+abbrev pub retransmittedBit : ℕ
+retransmittedBit = 4
+
+abbrev pub headerReserved : ℕ → ℕ
+headerReserved f = f % 2 ^ 4
+
+-- the length of the AVPs, and 0 where the header states a length that is under its own
+abbrev pub avpsLength : ℕ → ℕ
+avpsLength n = n - headerSize
+
+-- the header's own error flags: its reserved bits
+unfoldable pub headerErrors : List ℕ → ℕ
+headerErrors s = flag (not (eqb (headerReserved (be 1 s 4)) 0)) nonZeroReserved
+
+-- its refusals, in order
+unfoldable pub headerRefusals : List ℕ → List Refusal
+headerRefusals s =
+    refuse (ltb (length s) 1) incomplete 1
+    ∷ refuse (not (eqb (be 1 s 0) 1)) notVersion 0
+    ∷ refuse (ltb (length s) 4) incomplete (4 - length s)
+    ∷ refuse (ltb (messageLength s) 4) badLength 0
+    ∷ refuse (ltb (length s) (messageLength s)) incomplete (messageLength s - length s)
+    ∷ refuse (ltb (messageLength s) headerSize) badLength 0
+    ∷ []

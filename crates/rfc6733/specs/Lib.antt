@@ -1,0 +1,15 @@
+pub mod Answer
+pub mod Flags
+pub mod Header
+pub mod Avp
+pub mod Value
+pub mod Signed
+pub mod Dictionary
+pub mod Record
+pub mod Entered
+pub mod Decoder
+pub mod Forest
+pub mod Writer
+pub mod Dump
+pub mod Marked
+pub mod Extremal

@@ -1,0 +1,88 @@
+-- Kinds (document 01, after RFC 6733, sections 4.2 and 4.3), and what each makes of an AVP's data.
+-- Assumes nothing: these are definitions.
+use Prim.Native.Nat.{ℕ}
+use mathlib.Core.Bool.{Bool, false, cond, _||_}
+use mathlib.Core.List.{List, [], _∷_}
+use lib.ListN.{length}
+use lib.Dec.{ltb, eqb}
+use Rattle.octets.specs.Octets.{be}
+use Rattle.rfc3629.specs.Utf8.{wellFormed}
+use Rattle.rfc6733.specs.Flags.{dataValue, dataLength, flag}
+
+-- the kinds
+abbrev pub unhandled : ℕ
+unhandled = 0
+
+abbrev pub octetString : ℕ
+octetString = 1
+
+abbrev pub integer32 : ℕ
+integer32 = 2
+
+abbrev pub integer64 : ℕ
+integer64 = 3
+
+abbrev pub unsigned32 : ℕ
+unsigned32 = 4
+
+abbrev pub unsigned64 : ℕ
+unsigned64 = 5
+
+abbrev pub float32 : ℕ
+float32 = 6
+
+abbrev pub float64 : ℕ
+float64 = 7
+
+abbrev pub grouped : ℕ
+grouped = 8
+
+abbrev pub enumerated : ℕ
+enumerated = 9
+
+abbrev pub utf8String : ℕ
+utf8String = 10
+
+abbrev pub diameterIdentity : ℕ
+diameterIdentity = 11
+
+abbrev pub diameterURI : ℕ
+diameterURI = 12
+
+abbrev pub address : ℕ
+address = 13
+
+abbrev pub time : ℕ
+time = 14
+
+-- What a reading makes of data: a kind, the error flags that it raises, and the number in a record's value field.
+pub record Value : Type 0 where
+  pub kind : ℕ
+  pub errors : ℕ
+  pub number : ℕ
+
+abbrev pub value : ℕ → ℕ → ℕ → Value
+value k e n = record { kind = k; errors = e; number = n }
+
+-- a number of w bytes. Departure D3: surplus data is kept, and too little is Unhandled, each with DataLength
+unfoldable pub fixed : ℕ → ℕ → List ℕ → Value
+fixed w k s =
+    cond (ltb (length s) w) (value unhandled dataLength 0)
+    (value k (flag (ltb w (length s)) dataLength) (be w s 0))
+
+-- text. Departures D1 and D2: RFC 3629 decides, and nothing more is asked of an identity or a URI
+unfoldable pub text : ℕ → List ℕ → Value
+text k s = cond (wellFormed s) (value k 0 0) (value unhandled dataValue 0)
+
+abbrev pub oneOf : ℕ → List ℕ → Bool
+oneOf k [] = false
+oneOf k (x ∷ xs) = eqb k x || oneOf k xs
+
+-- data read as the kind k, which is not Grouped. How an Address is read is a parameter
+unfoldable pub readAs : (List ℕ → Value) → ℕ → List ℕ → Value
+readAs asAddress k s =
+    cond (oneOf k (integer32 ∷ unsigned32 ∷ float32 ∷ enumerated ∷ time ∷ [])) (fixed 4 k s)
+    (cond (oneOf k (integer64 ∷ unsigned64 ∷ float64 ∷ [])) (fixed 8 k s)
+    (cond (oneOf k (utf8String ∷ diameterIdentity ∷ diameterURI ∷ [])) (text k s)
+    (cond (eqb k address) (asAddress s)
+    (value k 0 0))))
