@@ -1,0 +1,24 @@
+-- A contract that says `answerOf r ≡ ..` names one outcome: the outcome can be read back from its answer, since a refusal is told by
+-- its number. So two outcomes with the same answer are the same.
+-- Assumes nothing.
+use mathlib.Core.Path.{_≡_, refl, sym, ap, _∙_}
+use mathlib.Core.Bool.{cond}
+use lib.Dec.{eqb}
+use Rattle.rfc6733.specs.Answer.{Answer, accepted, refused, incomplete}
+use Rattle.avp.specs.declared.AVP.{AVP}
+use Rattle.avp.specs.declared.Front.{Front}
+use Rattle.avp.specs.declared.Front.the-variants.{Whole, Incomplete, BadLength}
+use Rattle.avp.specs.Front.{answerOf}
+
+abbrev outcome-back : Answer AVP → Front
+outcome-back (accepted a) = Whole a
+outcome-back (refused number amount) = cond (eqb number incomplete) (Incomplete amount) BadLength
+
+outcome-is-back : (r : Front) → outcome-back (answerOf r) ≡ r
+unfolding answerOf
+outcome-is-back (Whole a) = refl
+outcome-is-back (Incomplete n) = refl
+outcome-is-back BadLength = refl
+
+pub answer-of-injective : (r r′ : Front) → answerOf r ≡ answerOf r′ → r ≡ r′
+answer-of-injective r r′ e = sym (outcome-is-back r) ∙ ap outcome-back e ∙ outcome-is-back r′

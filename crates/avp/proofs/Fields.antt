@@ -1,0 +1,64 @@
+-- An AVP's fields and sizes as the code finds them, byte by byte: they are those of the definition.
+-- Assumes nothing.
+use Prim.Native.Nat.{ℕ, _+_, _-_, _≤_}
+use mathlib.Core.Path.{_≡_, sym, ap, _∙_}
+use mathlib.Core.Bool.{true, false}
+use mathlib.Core.List.{List}
+use native.Mathlib.Omega.{arith}
+use lib.ListN.{length, getD}
+use Rattle.octets.specs.Octets.{Reads, be}
+use Rattle.octets.proofs.Numbers.{bytes, read-at, one-byte}
+use Rattle.rfc6733.specs.Flags.{bit}
+use Rattle.rfc6733.specs.Avp.{flags, avpLength, vendorBit, headSize, vendor, dataSize, padding, avpSize}
+use Rattle.rfc6733.proofs.Complete.{Whole, sizes}
+use Rattle.avp.specs.declared.AVP.{AVP}
+use Rattle.avp.specs.Front.{avpOf}
+
+module _ (s : List ℕ) where
+  -- l is the length that the AVP states, and h its header's size
+  pub record Stated (l h : ℕ) : Type 0 where
+    pub length-is : l ≡ avpLength s
+    pub header-is : h ≡ headSize (flags s)
+
+  pub stated : (l h : ℕ) → Reads 3 (bytes 3 s 5) l → h ≡ headSize (getD s 4 0) → Stated l h
+  stated l h length header = record { length-is = read-at 3 s 5 l length; header-is = header ∙ ap headSize (sym (one-byte s 4)) }
+
+  -- p bytes of padding follow
+  pub record Padded (l p : ℕ) : Type 0 where
+    pub size-is : l + p ≡ avpSize s
+    pub few : p ≤ 3
+
+  pub padded : (l h p : ℕ) → Stated l h → p ≡ padding (l - h) → Padded l p
+  unfolding dataSize
+  padded l h p st e =
+      let z = sizes s in
+      let same : p ≡ padding (dataSize s) = cc in
+      record { size-is = omega arith; few = omega arith }
+
+  -- ---- the vendor
+
+  pub header-there : Whole s → headSize (flags s) ≤ length s
+  header-there w = omega (arith, sizes s)
+
+  pub record Vendored : Type 0 where
+    pub header-is : headSize (flags s) ≡ 12
+    pub vendor-is : vendor s ≡ be 4 s 8
+
+  pub with-vendor : bit vendorBit (getD s 4 0) ≡ true → Vendored
+  unfolding headSize vendor
+  with-vendor e = record { header-is = rw (one-byte, e); vendor-is = rw (one-byte, e) }
+
+  pub without-vendor : bit vendorBit (getD s 4 0) ≡ false → vendor s ≡ 0
+  unfolding vendor
+  without-vendor e = rw (one-byte, e)
+
+  -- ---- all of them
+
+  pub fields-are : (a : AVP) → Reads 4 (bytes 4 s 0) (a .code) → a .flags ≡ getD s 4 0 → a .length ≡ avpLength s → a .«vendor_id» ≡ vendor s
+      → a .size ≡ avpSize s → a ≡ avpOf s
+  unfolding avpOf
+  fields-are a code flags length vendor size =
+      let e : record { code = a .code; flags = a .flags; length = a .length; «vendor_id» = a .«vendor_id»; size = a .size } ≡ avpOf s =
+      cc (read-at 4 s 0 _ code, one-byte s 4)
+      in
+      e

@@ -1,0 +1,4 @@
+pub mod AnswerOf
+pub mod Fields
+pub mod Fronts
+pub mod Refusals

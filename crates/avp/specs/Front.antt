@@ -1,0 +1,29 @@
+-- What reading the AVP at the front of a slice answers, as document 01's answer.
+-- Assumes nothing: these are definitions.
+use Prim.Native.Nat.{ℕ}
+use mathlib.Core.List.{List}
+use Rattle.rfc6733.specs.Answer.{Answer, accepted, refused, answer, incomplete, badLength}
+use Rattle.rfc6733.specs.Avp as rfc
+use Rattle.avp.specs.declared.AVP.{AVP}
+use Rattle.avp.specs.declared.Front.{Front}
+use Rattle.avp.specs.declared.Front.the-variants.{Whole, Incomplete, BadLength}
+
+-- the fields of the AVP at the front
+unfoldable pub avpOf : List ℕ → AVP
+avpOf s =
+    record {
+      code = rfc.code s;
+      flags = rfc.flags s;
+      length = rfc.avpLength s;
+      «vendor_id» = rfc.vendor s;
+      size = rfc.avpSize s;
+    }
+
+unfoldable pub answerOf : Front → Answer AVP
+answerOf (Whole a) = accepted a
+answerOf (Incomplete n) = refused incomplete n
+answerOf BadLength = refused badLength 0
+
+-- the AVP alone, without what its data are
+unfoldable pub frontOf : List ℕ → Answer AVP
+frontOf s = answer (rfc.avpRefusals s) (avpOf s)

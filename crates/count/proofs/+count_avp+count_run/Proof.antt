@@ -1,0 +1,292 @@
+-- The cycle of `count_avp` and `count_run` meets its contracts. A run is the AVPs passed so far and what is left: the sums are those of
+-- the AVPs passed, none of which tries a header too deep. An AVP is one header and, where it is a group, its payload's run with one
+-- level less. The measure is two for each level left and one more for a run, so it falls from a run to its AVPs and from a group inwards.
+-- Assumes nothing.
+use Prim.Native.Nat.{ℕ, _+_, _-_, _*_, _^_, _<_, _≤_}
+use mathlib.Core.Path.{_≡_, sym, ap, _∙_}
+use mathlib.Core.Bool.{true, cond}
+use mathlib.Core.List.{List}
+use mathlib.Core.Logic.{⊎-elim}
+use native.Mathlib.Omega.{arith}
+use lib.ListN.{length, drop, length-drop, drop-of-length-le}
+use denote.Ref.{now}
+use borrow.Author.Needs.{needs}
+use borrow.Fn.Kinds.{In}
+use borrow.Fn.PlainCycle.{Measures, is, falls, and}
+use Rattle.octets.specs.Run.{Tree, done, broken, tree, tried}
+use Rattle.octets.proofs.Runs.{tree-none, tree-broken}
+use Rattle.rfc6733.specs.Avp.{payload}
+use Rattle.rfc6733.specs.Value.{grouped}
+use Rattle.rfc6733.specs.Record.{kindOf, avps}
+use Rattle.rfc6733.proofs.Items.{sound}
+use Rattle.rfc6733.proofs.Alone.{some-tried}
+use Rattle.attribute.specs.Attributes.{dictionary}
+use Rattle.avp.specs.Front.{answerOf}
+use Rattle.avp.proofs.Fronts.{Turn, turn, stuck, here}
+use Rattle.count.specs.declared.Counted.the-variants.{Counts}
+use Rattle.count.specs.Counts.{countOf}
+use Rattle.count.proofs.Counts.{Known, was-deep, was-counts, within, Passed, none-passed, one-passed, then-deep, then-ends, one-plain, one-deep, one-group}
+use Rattle.count.proofs.Lent.{Own, own, Inside, inside}
+use Rattle.attribute.proofs.kind.Reads as kind-reads
+use Rattle.avp.proofs.AVP.head.Reads as head-reads
+use Rattle.avp.proofs.AVP.header_size.Reads as header-size-reads
+use Rattle.count.proofs.count_avp.Reads as count-avp
+use Rattle.count.proofs.count_avp.Kinds as count-avp-kinds
+use Rattle.count.proofs.+count_avp+count_run.Lts-count_avp as count-avp-lts
+use Rattle.count.proofs.count_run.Reads as count-run
+use Rattle.count.proofs.count_run.Kinds as count-run-kinds
+use Rattle.count.proofs.+count_avp+count_run.Lts-count_run as count-run-lts
+use Rattle.count.proofs.+count_avp+count_run.{statement}
+use Rattle.count.proofs.+count_avp+count_run.Tie.{close}
+
+abbrev μ-count-avp : Measures 1 count-avp-kinds.ps ℕ
+μ-count-avp κs a = 2 * a .1 .1 .1 .0
+
+abbrev μ-count-run : Measures 1 count-run-kinds.ps ℕ
+μ-count-run κs a = 2 * a .1 .1 .0 + 1
+
+abbrev count-avp-at : ℕ → In 1 count-avp-kinds.ps
+count-avp-at t = and 1 count-avp-kinds.ps (is 1 count-avp-kinds.ps μ-count-avp t) count-avp.Pre
+
+abbrev count-avp-below : ℕ → In 1 count-avp-kinds.ps
+count-avp-below t = and 1 count-avp-kinds.ps (falls 1 count-avp-kinds.ps _<_ μ-count-avp t) count-avp.Pre
+
+abbrev count-run-at : ℕ → In 1 count-run-kinds.ps
+count-run-at t = and 1 count-run-kinds.ps (is 1 count-run-kinds.ps μ-count-run t) count-run.Pre
+
+abbrev count-run-below : ℕ → In 1 count-run-kinds.ps
+count-run-below t = and 1 count-run-kinds.ps (falls 1 count-run-kinds.ps _<_ μ-count-run t) count-run.Pre
+
+-- ---- `count_avp`
+
+abbrev count-avp-calls : ℕ → count-avp-lts.Claims
+count-avp-calls t = (kind-reads.Asked, kind-reads.Learnt, header-size-reads.Asked, header-size-reads.Learnt, count-run-below t, count-run.Post)
+
+module _ (t : ℕ) where
+  -- the function's entry, and a group entered
+  abbrev Entry : Type 0
+  Entry = count-avp-lts.Start (count-avp-calls t) (count-avp-at t) count-avp.Post
+
+  abbrev Group : Type 0
+  Group = count-avp-lts.Else1 (count-avp-calls t) (count-avp-at t) count-avp.Post
+
+  abbrev entry : Group → Entry
+  entry e = e .before .before .before
+
+  -- the AVP's bytes, and the trees of it and of its payload
+  abbrev bytes : Entry → List ℕ
+  bytes b = now (b .args .s)
+
+  abbrev one : Entry → Tree
+  one b = tree (avps (dictionary (b .args .reading))) (bytes b)
+
+  abbrev inner : Entry → Tree
+  inner b = tree (avps (dictionary (b .args .reading))) (payload (bytes b))
+
+  -- its kind is the dictionary's
+  kind-is : (c : count-avp-lts.After-kind (count-avp-calls t) (count-avp-at t) count-avp.Post)
+      → let b = c .before .before in c .kind .result ≡ kindOf (dictionary (b .args .reading)) (bytes b)
+  unfolding kindOf
+  kind-is c = let h = here _ _ (c .before .before .pre .1 .0) in cc
+
+  is-grouped : (e : Group) → kindOf (dictionary (entry e .args .reading)) (bytes (entry e)) ≡ grouped
+  is-grouped e = sym (kind-is (e .before)) ∙ e .if1 .left
+
+  -- its payload is lent, and counted
+  payload-lent : (c : count-avp-lts.After-header-size (count-avp-calls t) (count-avp-at t) count-avp.Post)
+      → let b = entry (c .before) in Inside (bytes b) (c .header-size .result) (b .args .a .length)
+  payload-lent c = let b = entry (c .before) in inside _ _ _ (b .pre .1 .1) (here _ _ (b .pre .1 .0)) (c .header-size .ensures)
+
+  inner-counted : (c : count-avp-lts.After-count-run (count-avp-calls t) (count-avp-at t) count-avp.Post)
+      → let b = entry (c .before .before .before) in c .count-run .result ≡ countOf (b .args .left - 1) (inner b)
+  inner-counted c = rw (payload-lent (c .before .before) .is) at (c .count-run .ensures)
+
+  inner-known : (c : count-avp-lts.After-known-told (count-avp-calls t) (count-avp-at t) count-avp.Post)
+      → let b = entry (c .before .before .before .before .before .before) in
+      let k = c .before .tiles .given .0 in
+      Known (b .args .left - 1) (inner b) (k .0) (k .1 .0) (k .1 .1 .0)
+  inner-known c = was-counts _ _ _ _ _ (sym (c .before .tiles .given .1) ∙ inner-counted (c .before .before .before))
+
+  -- it is counted with its members, and so both sums fit
+  with-members : (c : count-avp-lts.Joined2 (count-avp-calls t) (count-avp-at t) count-avp.Post)
+      → let b = entry (c .before .before .before .before .before .before .before) in
+      let k = c .before .before .tiles .given .0 in
+      Counts true (1 + c .if2 .members) (1 + k .1 .1 .0) ≡ countOf (b .args .left) (one b)
+  with-members c =
+      let e = c .before .before .before .before .before .before .before in
+      let k = c .before .before .tiles .given .0 in
+      let m : c .if2 .members ≡ cond (k .0) (k .1 .0) 0 =
+      ⊎-elim (λ w. w .1 ∙ rw (w .0 .taken)) (λ w. w .1 ∙ rw (w .0 .left)) (c .if2 .came) in
+      one-group _ _ (entry e .pre .1 .1) _ (omega arith) (is-grouped e) _ (inner-known (c .before)) m
+
+  sums-fit : (c : count-avp-lts.Joined2 (count-avp-calls t) (count-avp-at t) count-avp.Post)
+      → (1 + c .if2 .members < 2 ^ 64) × (1 + c .before .before .tiles .given .0 .1 .1 .0 < 2 ^ 64)
+  sums-fit c =
+      let b = entry (c .before .before .before .before .before .before .before) in
+      let k = was-counts _ _ _ _ _ (with-members c) in
+      omega (arith, within (dictionary (b .args .reading)) (bytes b), b .good .1 .0 .0)
+
+  count-avp-returns : count-avp-lts.Need-returns (count-avp-calls t) (count-avp-at t) count-avp.Post
+  count-avp-returns c = one-plain _ _ (c .before .before .before .pre .1 .1) _ (omega arith) (λ e. c .if1 .taken (kind-is (c .before) ∙ e))
+
+  count-avp-returns-2 : count-avp-lts.Need-returns-2 (count-avp-calls t) (count-avp-at t) count-avp.Post
+  count-avp-returns-2 c =
+      let e = c .before .before .before .before .before in
+      one-deep _ _ (entry e .pre .1 .1) _ (omega arith) (is-grouped e)
+      (was-deep _ _ (sym (c .enum-told .given .1) ∙ inner-counted (c .before .before)))
+
+-- ---- `count_run`
+
+abbrev count-run-calls : ℕ → count-run-lts.Claims
+count-run-calls t = (head-reads.Asked, head-reads.Learnt, count-avp-below t, count-avp.Post)
+
+abbrev count-run-Inv-loop : count-run-lts.InvT-loop
+count-run-Inv-loop reading s left records₀ tried₀ at₀ records tried at =
+    (at ≤ length s) × Passed left (tree (avps (dictionary reading)) s) (tree (avps (dictionary reading)) (drop at s)) records tried
+
+abbrev count-run-μ-loop : count-run-lts.MeasureT-loop
+count-run-μ-loop reading s left records₀ tried₀ at₀ records tried at = length s - at
+
+module _ (t : ℕ) where
+  -- the head of the loop, and an AVP found there
+  abbrev Loop : Type 0
+  Loop = count-run-lts.At-loop (count-run-calls t) (count-run-at t) count-run.Post count-run-Inv-loop count-run-μ-loop
+
+  abbrev Found : Type 0
+  Found = count-run-lts.After-struct-known (count-run-calls t) (count-run-at t) count-run.Post count-run-Inv-loop count-run-μ-loop
+
+  abbrev loop : Found → Loop
+  loop c = c .before .before .before .before .before .before .before .before
+
+  -- the run's bytes, and its tree from a place on
+  abbrev run : Loop → List ℕ
+  run l = now (l .before .before .args .s)
+
+  abbrev from : Loop → ℕ → Tree
+  from l at = tree (avps (dictionary (l .before .before .args .reading))) (drop at (run l))
+
+  -- no sum is past the length
+  fits : (l : Loop) {r : Tree} {n k : ℕ} → Passed (l .before .before .args .left) (from l 0) r n k → (n < 2 ^ 64) × (k + tried r < 2 ^ 64)
+  fits l p = let b = l .before .before in omega (arith, within (dictionary (b .args .reading)) (run l), b .good .1 .0 .0)
+
+  some-left : (c : count-run-lts.In-loop (count-run-calls t) (count-run-at t) count-run.Post count-run-Inv-loop count-run-μ-loop)
+      → let l = c .before in 0 < length (drop (l .loop .at) (run l))
+  some-left c = let l = c .before in omega (arith, length-drop (l .loop .at) (run l))
+
+  -- there is no complete AVP at `at`
+  none-there : (c : count-run-lts.At-match-keys2 (count-run-calls t) (count-run-at t) count-run.Post count-run-Inv-loop count-run-μ-loop)
+      → let l = c .before .before .before .before .before in from l (l .loop .at) ≡ broken
+  none-there c =
+      let l = c .before .before .before .before .before in
+      tree-broken _ (sound _) _ (some-left (c .before .before .before .before))
+      (stuck (run l) (l .loop .at) _ (omega arith) (c .match .keys2) (c .before .head .ensures))
+
+  -- there is one; it is lent, and counted
+  turned : (c : Found) → let l = loop c in Turn (run l) (l .loop .at) (c .before .before .a .given .0 .0)
+  turned c = let w = c .before .before in turn _ _ _ (omega arith) (ap answerOf (sym (w .a .given .1)) ∙ w .before .before .head .ensures)
+
+  own-lent : (c : Found)
+      → let l = loop c in
+      Own (dictionary (l .before .before .args .reading)) (run l) (l .loop .at) (c .before .before .a .given .0 .0)
+  own-lent c = own _ _ _ _ (turned c)
+
+  passed : (c : count-run-lts.After-known-told2 (count-run-calls t) (count-run-at t) count-run.Post count-run-Inv-loop count-run-μ-loop)
+      → let u = c .before .before .before .before .before in
+      let l = loop u in
+      let k = c .before .r .given .0 .1 in
+      Passed (l .before .before .args .left) (from l 0) (from l (l .loop .at + u .before .before .a .given .0 .0 .size))
+      (l .loop .records + k .0) (l .loop .tried + k .1 .0)
+  passed c =
+      let u = c .before .before .before .before .before in
+      one-passed (loop u .loop .inv .1) (own-lent u .split)
+      (was-counts _ _ _ _ _ (sym (c .before .r .given .1) ∙ c .before .before .before .count-avp .ensures))
+
+  count-run-returns : count-run-lts.Need-returns (count-run-calls t) (count-run-at t) count-run.Post count-run-Inv-loop count-run-μ-loop
+  count-run-returns c =
+      let l = c .before .before in
+      let d = some-tried (dictionary (l .before .before .args .reading)) (drop (l .loop .at) (run l)) (some-left (c .before)) in
+      then-deep (l .loop .inv .1) (omega arith)
+
+  count-run-add-t17 : count-run-lts.Need-add-t17 (count-run-calls t) (count-run-at t) count-run.Post count-run-Inv-loop count-run-μ-loop
+  count-run-add-t17 c =
+      let l = c .before .before .before .before .before in
+      omega (arith, ap tried (none-there c), fits l (l .loop .inv .1))
+
+  count-run-returns-2 : count-run-lts.Need-returns-2 (count-run-calls t) (count-run-at t) count-run.Post count-run-Inv-loop count-run-μ-loop
+  count-run-returns-2 c =
+      let l = c .before .before .before .before .before in
+      then-ends (l .loop .inv .1) broken (none-there c) (omega arith) (omega arith) (omega arith)
+
+  count-run-count-avp-requires : count-run-lts.Need-count-avp-requires (count-run-calls t) (count-run-at t) count-run.Post count-run-Inv-loop count-run-μ-loop
+  count-run-count-avp-requires c κs = let o = own-lent (c .before) in (omega arith, (o .is, o .exact, omega arith))
+
+  count-run-returns-3 : count-run-lts.Need-returns-3 (count-run-calls t) (count-run-at t) count-run.Post count-run-Inv-loop count-run-μ-loop
+  count-run-returns-3 c =
+      let u = c .before .before .before .before in
+      let j = own-lent u .split in
+      let d = was-deep _ _ (sym (c .enum-told .given .1) ∙ c .before .before .count-avp .ensures) in
+      then-deep (loop u .loop .inv .1) (omega arith)
+
+  count-run-loop-again : count-run-lts.Need-loop-again (count-run-calls t) (count-run-at t) count-run.Post count-run-Inv-loop count-run-μ-loop
+  count-run-loop-again c = (turned (c .before .before .before .before .before) .fits, passed c)
+
+  count-run-returns-4 : count-run-lts.Need-returns-4 (count-run-calls t) (count-run-at t) count-run.Post count-run-Inv-loop count-run-μ-loop
+  count-run-returns-4 c =
+      let l = c .before in
+      let F = avps (dictionary (l .before .before .args .reading)) in
+      then-ends (l .loop .inv .1) done (ap (tree F) (drop-of-length-le (run l) (c .loop-test .left)) ∙ tree-none F)
+      (omega arith) (omega arith) (omega arith)
+
+pub +count-avp+count-run-spec : {M : Type 1} → statement M
++count-avp+count-run-spec =
+    close
+    μ-count-avp
+    μ-count-run
+    (λ t.
+    count-avp-lts.spec
+    (count-avp-calls t)
+    (count-avp-at t)
+    count-avp.Post
+    (λ c κs. search needs)
+    (count-avp-returns t)
+    (λ c κs. search needs)
+    (λ c. omega (arith, payload-lent t c))
+    (λ c. omega (arith, payload-lent t c))
+    (λ c. omega (arith, payload-lent t c))
+    (λ c. search needs)
+    (λ c κs. search needs)
+    (λ c. search needs)
+    (λ c. search needs)
+    (count-avp-returns-2 t)
+    (λ c. omega (arith, sums-fit t (c .before)))
+    (λ c. omega (arith, sums-fit t (c .before)))
+    (λ c. with-members t (c .before)))
+    (λ t.
+    count-run-lts.spec
+    (count-run-calls t)
+    (count-run-at t)
+    count-run.Post
+    count-run-Inv-loop
+    count-run-μ-loop
+    (λ c. (omega arith, none-passed _ _))
+    (count-run-returns t)
+    (λ c. search needs)
+    (λ c. search needs)
+    (λ c. search needs)
+    (λ c κs. search needs)
+    (λ c. search needs)
+    (count-run-add-t17 t)
+    (count-run-returns-2 t)
+    (λ c. omega (arith, turned t c))
+    (λ c. omega (arith, turned t c))
+    (λ c. omega (arith, turned t c))
+    (λ c. omega (arith, turned t c))
+    (count-run-count-avp-requires t)
+    (λ c. search needs)
+    (λ c. search needs)
+    (count-run-returns-3 t)
+    (λ c. omega (arith, fits t (loop t (c .before .before .before .before .before)) (passed t c)))
+    (λ c. omega (arith, fits t (loop t (c .before .before .before .before .before)) (passed t c)))
+    (λ c. omega (arith, turned t (c .before .before .before .before .before)))
+    (count-run-loop-again t)
+    (count-run-returns-4 t))

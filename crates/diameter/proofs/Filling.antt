@@ -1,0 +1,127 @@
+-- The loop over a run: what has been written and what is left to write. Each turn puts the records of one AVP right after those
+-- before it, so at the end the records of the run stand at the front of the store.
+-- Assumes nothing.
+use Prim.Native.Nat.{ℕ, _+_, _-_, _*_, _≤_, _<_}
+use mathlib.Core.Path.{_≡_, refl, sym, ap, _∙_}
+use mathlib.Core.Bool.{true, false}
+use mathlib.Core.List.{List, [], _++_, append-assoc, append-nil}
+use native.Mathlib.Nat.{add-zero}
+use native.Mathlib.Omega.{arith}
+use lib.ListN.{length, take, drop, length-append, length-drop, drop-of-length-le}
+use borrow.Rule.Slice.PartMut.{putMid}
+use Rattle.octets.specs.Octets.{over}
+use Rattle.octets.specs.Run.{Tree, done, tree, tiles, deepest}
+use Rattle.octets.proofs.Runs.{false-true, tree-none, tree-broken}
+use Rattle.octets.proofs.Lists.{rest, over-none, over-length, over-more, lent}
+use Rattle.rfc6733.specs.Flags.{join}
+use Rattle.rfc6733.specs.Avp.{complete}
+use Rattle.rfc6733.specs.Dictionary.{Dictionary}
+use Rattle.rfc6733.specs.Record.{recordSize, laid, avps, errors, records, recordCount}
+use Rattle.rfc6733.proofs.Joins.{join-assoc, zero-join, join-zero}
+use Rattle.rfc6733.proofs.Items.{sound}
+use Rattle.rfc6733.proofs.Layouts.{laid-length, laid-append}
+use Rattle.rfc6733.proofs.RunRecords.{records-count}
+use Rattle.avp.specs.declared.AVP.{AVP}
+use Rattle.diameter.specs.declared.fill.Ran.{Ran}
+use Rattle.diameter.specs.Fill.{Room, Written}
+use Rattle.diameter.proofs.OwnBytes.{OwnBytes}
+
+-- Of the run t at a place, n records with the flags e are written over the store `before`, which has become `now`. The run r is
+-- left, which starts at the place q.
+pub record Filling (D : Dictionary) (t r : Tree) (place q depth n e : ℕ) (before now : List ℕ) : Type 0 where
+  pub written : List ℕ
+  pub written-length : length written ≡ n * recordSize
+  pub records-are : laid (records D place depth t) ≡ written ++ laid (records D q depth r)
+  pub store-is : now ≡ over written before
+  pub length-kept : length now ≡ length before
+  pub tiles-is : tiles t ≡ tiles r
+  pub count-is : recordCount t ≡ n + recordCount r
+  pub errors-are : errors D t ≡ join e (errors D r)
+  pub no-deeper : deepest r ≤ deepest t
+
+pub nothing-filled : {D : Dictionary} {t : Tree} {place depth : ℕ} {store : List ℕ} → Filling D t t place (place + 0) depth 0 0 store store
+nothing-filled {D} {t} {place} {depth} {store} =
+    record {
+      written = [];
+      written-length = refl;
+      records-are = ap (λ (q : ℕ). laid (records D q depth t)) (sym (add-zero place));
+      store-is = sym (over-none store);
+      length-kept = refl;
+      tiles-is = refl;
+      count-is = omega arith;
+      errors-are = sym (zero-join (errors D t));
+      no-deeper = omega arith;
+    }
+
+module _ {D : Dictionary} {t : Tree} {place q depth n e : ℕ} {before now : List ℕ} (s : List ℕ) (at : ℕ)
+    (f : Filling D t (tree (avps D) (drop at s)) place q depth n e before now) where
+  -- where a byte is left of a run that tiles there is a complete AVP
+  pub never-stuck : tiles t ≡ true → at < length s → complete (drop at s) ≡ false → ⊥
+  never-stuck whole some none =
+      let broken = tree-broken (avps D) (sound (avps D .nested)) (drop at s) (omega (arith, length-drop at s)) none in
+      false-true (sym (ap tiles broken) ∙ sym (f .tiles-is) ∙ whole)
+
+  -- where none is left all is written
+  pub all-filled : length s ≤ at → Written D t place depth (record { records = n; errors = e }) before now
+  all-filled end =
+      let none : tree (avps D) (drop at s) ≡ done = ap (tree (avps D)) (drop-of-length-le s end) ∙ tree-none (avps D) in
+      let all = rw none at f in
+      record {
+        count-is = omega (arith, all .count-is);
+        errors-are = sym (all .errors-are ∙ join-zero e);
+        store-is = all .store-is ∙ ap (λ (x : List ℕ). over x before) (sym (all .records-are ∙ append-nil (all .written)));
+      }
+
+-- ---- one AVP more
+
+-- how many bytes a run's records take
+records-length : (D : Dictionary) (place depth : ℕ) (t : Tree) → length (laid (records D place depth t)) ≡ recordCount t * recordSize
+records-length D place depth t = omega (arith, laid-length (records D place depth t), records-count D place depth t)
+
+module _ {D : Dictionary} {s : List ℕ} {place depth : ℕ} {before : List ℕ} (fits : Room (tree (avps D) s) place (length s) depth (length before))
+    {at n e : ℕ} {now : List ℕ} (f : Filling D (tree (avps D) s) (tree (avps D) (drop at s)) place (place + at) depth n e before now)
+    {a : AVP} {own : List ℕ} (o : OwnBytes D s at a own) where
+  -- there is room for its records in what is left of the store
+  pub room-for-one : at + a .size ≤ length s
+      → Room (tree (avps D) own) (place + at) (length own) depth (length (take (length now - n * recordSize) (drop (n * recordSize) now)))
+  room-for-one inside =
+      let j = o .joined-is in
+      let left = ap length (rest now (n * recordSize) (omega arith)) ∙ length-drop (n * recordSize) now in
+      record { records-fit = omega arith; places-fit = omega arith; depths-fit = omega arith }
+
+  -- they are written there, and it came back
+  pub one-filled : {w : Ran} {back : List ℕ}
+      → Written D (tree (avps D) own) (place + at) depth w (take (length now - n * recordSize) (drop (n * recordSize) now)) back
+      → Filling D (tree (avps D) s) (tree (avps D) (drop (at + a .size) s)) place (place + (at + a .size)) depth (n + w .records) (join e (w .errors))
+      before (putMid (n * recordSize) (length now - n * recordSize) now back)
+  one-filled {w} {back} one =
+      let j = o .joined-is in
+      let size = n * recordSize in
+      let more = tree (avps D) (drop (at + a .size) s) in
+      let new = laid (records D (place + at) depth (tree (avps D) own)) in
+      let next : place + (at + a .size) ≡ place + at + a .size = omega arith in
+      let new-length : length (f .written ++ new) ≡ (n + w .records) * recordSize =
+      length-append (f .written) new ∙ omega (arith, records-length D (place + at) depth (tree (avps D) own), one .count-is, f .written-length)
+      in
+      let store : take size now ++ back ≡ over (f .written ++ new) before =
+      ap (λ (x : List ℕ). take size now ++ x) (one .store-is ∙ ap (over new) (rest now size (omega arith)))
+      ∙ ap (λ (x : List ℕ). take size x ++ over new (drop size x)) (f .store-is)
+      ∙ over-more (f .written) new before size (f .written-length)
+      in
+      rw (lent size now back, next)
+      record {
+        written = f .written ++ new;
+        written-length = new-length;
+        records-are =
+            f .records-are
+            ∙ ap (λ (x : List ℕ). f .written ++ x) (ap laid (j .records-are (place + at) depth) ∙ laid-append (records D (place + at) depth (tree (avps D) own)) _)
+            ∙ sym (append-assoc (f .written) new _);
+        store-is = store;
+        length-kept = ap length store ∙ over-length (f .written ++ new) before (omega (arith, new-length));
+        tiles-is = f .tiles-is ∙ j .tiles-is;
+        count-is = omega (arith, one .count-is);
+        errors-are =
+            f .errors-are ∙ ap (join e) (j .errors-are) ∙ sym (join-assoc e _ _)
+            ∙ ap (λ (x : ℕ). join (join e x) (errors D more)) (sym (one .errors-are));
+        no-deeper = omega arith;
+      }

@@ -1,0 +1,179 @@
+-- One AVP from its own bytes: its data and its padding are the parts that the code lends, so the record that is put before its
+-- members' is the definition's, and the two together are the records of the AVP.
+-- Assumes nothing.
+use Prim.Native.Nat.{ℕ, _+_, _-_, _≤_}
+use mathlib.Core.Path.{_≡_, sym, ap, ap₂, _∙_}
+use mathlib.Core.Bool.{not}
+use mathlib.Core.List.{List, _∷_, _++_}
+use native.Mathlib.Omega.{arith}
+use lib.ListN.{length, take, drop, length-append, length-drop}
+use lib.Seq.{length-take-le}
+use lib.Dec.{eqb}
+use borrow.Author.Tests.{le-leb}
+use borrow.Rule.Slice.PartMut.{putMid}
+use Rattle.octets.specs.Octets.{be, over}
+use Rattle.octets.specs.Run.{tree}
+use Rattle.octets.proofs.Lists.{rest, over-before, lent}
+use Rattle.rfc6733.specs.Flags.{flag, join, nonZeroReserved, nonZeroPadding}
+use Rattle.rfc6733.specs.Avp as avp
+use Rattle.rfc6733.specs.Avp.{headSize, avpReserved, payload, padding, dataSize, Exact}
+use Rattle.rfc6733.specs.Value.{Value}
+use Rattle.rfc6733.specs.Dictionary.{Dictionary}
+use Rattle.rfc6733.specs.Record as rfc
+use Rattle.rfc6733.specs.Record.{recordSize, recordBytes, ownErrors, recordOf, laid, avps, records}
+use Rattle.rfc6733.specs.Entered.{valueIn, entered}
+use Rattle.rfc6733.proofs.Complete.{sizes, complete-whole}
+use Rattle.rfc6733.proofs.Items.{payload-length}
+use Rattle.rfc6733.proofs.Layouts.{record-length}
+use Rattle.rfc6733.proofs.Alone.{exact-tree}
+use Rattle.rfc6733.proofs.Entered.{Made, made}
+use Rattle.avp.specs.declared.AVP.{AVP}
+use Rattle.avp.specs.Front.{avpOf}
+use Rattle.avp.proofs.Fronts.{Here, here}
+use Rattle.record.specs.declared.Record.{Record}
+use Rattle.record.specs.Stored.{recordAs, put}
+use Rattle.diameter.specs.declared.fill.Valued.{Valued}
+use Rattle.diameter.specs.Fill.{Room, Written, Members}
+
+-- the data as `&s[from..to]` lends them, and the padding as `&s[to..]` does
+abbrev pub lentData : List ℕ → AVP → ℕ → List ℕ
+lentData s a from = take (a .length - from) (drop from s)
+
+abbrev pub lentPadding : List ℕ → AVP → List ℕ
+lentPadding s a = take (length s - a .length) (drop (a .length) s)
+
+-- s is the bytes of the AVP a, whose header is as long as `from` says
+pub record Opened (s : List ℕ) (a : AVP) (from : ℕ) : Type 0 where
+  pub fields : Here s a
+  pub from-is : from ≡ headSize (avp.flags s)
+  pub from-in : from ≤ a .length
+  pub length-in : a .length ≤ length s
+  pub size-is : a .size ≡ length s
+  pub padding-is : a .size - a .length ≡ padding (dataSize s)
+  pub few : a .size - a .length ≤ 3
+  pub data-is : lentData s a from ≡ payload s
+  pub data-length : length (lentData s a from) ≡ a .length - from
+  pub pads-are : lentPadding s a ≡ drop (avp.avpLength s) s
+  pub pads-length : length (lentPadding s a) ≡ a .size - a .length
+
+pub opened : {s : List ℕ} {a : AVP} {from : ℕ} → a ≡ avpOf s → Exact s → from ≡ headSize (a .flags) → Opened s a from
+unfolding payload
+opened {s} {a} {from} is x e =
+    let h = here s a is in
+    let w = complete-whole s (x .whole) in
+    let z = sizes s in
+    let size : avp.avpSize s ≡ length s = x .size-is in
+    let from-is : from ≡ headSize (avp.flags s) = e ∙ ap headSize (h .flags-is) in
+    let n : a .length - from ≡ dataSize s = omega arith in
+    let data-is : lentData s a from ≡ payload s = ap₂ (λ (k i : ℕ). take k (drop i s)) n from-is in
+    let left = rest s (a .length) (omega arith) in
+    record {
+      fields = h;
+      from-is = from-is;
+      from-in = omega arith;
+      length-in = omega arith;
+      size-is = omega arith;
+      padding-is = omega arith;
+      few = omega arith;
+      data-is = data-is;
+      data-length = ap length data-is ∙ payload-length s w ∙ sym n;
+      pads-are = left ∙ ap (λ (k : ℕ). drop k s) (h .length-is);
+      pads-length = ap length left ∙ length-drop (a .length) s ∙ omega arith;
+    }
+
+-- ---- the record, put before the members'
+
+-- as the code makes it
+abbrev pub ownRecord : AVP → ℕ → ℕ → ℕ → ℕ → ℕ → Valued → Record
+ownRecord a from place depth pads errors m =
+    record {
+      code = a .code;
+      flags = a .flags;
+      length = a .length;
+      vendor = a .«vendor_id»;
+      place = place + from;
+      depth = depth;
+      kind = m .kind;
+      errors = errors;
+      padding = a .size - a .length;
+      pads = pads;
+      value = m .number;
+    }
+
+put-with-room : (r : rfc.Record) (store : List ℕ) → recordSize ≤ length store → put r store ≡ over (recordBytes r) store
+unfolding put
+put-with-room r store h = rw (le-leb _ _ h)
+
+-- a record put at the front of a store whose part after it was lent, and came back with other bytes at its front
+put-before : (r : rfc.Record) (bytes store back : List ℕ) → recordSize ≤ length store
+    → back ≡ over bytes (take (length store - recordSize) (drop recordSize store))
+    → put r (putMid recordSize (length store - recordSize) store back) ≡ over (recordBytes r ++ bytes) store
+put-before r bytes store back room is =
+    let after = take recordSize store ++ over bytes (drop recordSize store) in
+    let fits : recordSize ≤ length after =
+    omega (arith, length-append (take recordSize store) (over bytes (drop recordSize store)), length-take-le recordSize store room)
+    in
+    ap (put r) (lent recordSize store back ∙ ap (λ (x : List ℕ). take recordSize store ++ x) (is ∙ ap (over bytes) (rest store recordSize room)))
+    ∙ put-with-room r after fits
+    ∙ over-before (recordBytes r) bytes store recordSize (record-length r) room
+
+-- ---- the records of the AVP
+
+module _ (D : Dictionary) {s : List ℕ} {a : AVP} {from : ℕ} (o : Opened s a from) (x : Exact s) where
+  -- what its records are made of
+  made-here : Made D s (tree (avps D) s) (valueIn D (a .code) (a .«vendor_id») (lentData s a from)) (entered D (a .code) (a .«vendor_id») (lentData s a from))
+  made-here = rw (exact-tree D s x, o .fields .code-is, o .fields .vendor-is, o .data-is) (made D s)
+
+  pub room-for-own : {place n depth l : ℕ} → Room (tree (avps D) s) place n depth l → recordSize ≤ l
+  room-for-own room = omega (arith, made-here)
+
+  pub room-for-members : {place depth : ℕ} (store : List ℕ) → Room (tree (avps D) s) place (length s) depth (length store)
+      → Room (entered D (a .code) (a .«vendor_id») (lentData s a from)) (place + from) (length (lentData s a from)) (depth + 1)
+      (length (take (length store - recordSize) (drop recordSize store)))
+  room-for-members store room =
+      let m = made-here in
+      let l = ap length (rest store recordSize (room-for-own room)) ∙ length-drop recordSize store in
+      record { records-fit = omega arith; places-fit = omega arith; depths-fit = omega arith }
+
+  own-errors-are : (p e : ℕ) → p ≡ be 3 (lentPadding s a) 0
+      → e ≡ join (flag (not (eqb (avpReserved (a .flags)) 0)) nonZeroReserved) (flag (not (eqb p 0)) nonZeroPadding) → e ≡ ownErrors s
+  unfolding ownErrors avp.pads
+  own-errors-are p e ep ee = ee ∙ rw (ep, o .pads-are, o .fields .flags-is)
+
+  own-record-is : (place depth p e : ℕ) (m : Valued) (v : Value) → p ≡ be 3 (lentPadding s a) 0 → m .kind ≡ v .kind → m .number ≡ v .number
+      → e ≡ join (ownErrors s) (v .errors) → recordAs (ownRecord a from place depth p e m) ≡ recordOf place depth s v
+  unfolding recordAs recordOf avp.pads
+  own-record-is place depth p e m v ep ek en ee =
+      rw (ep, ek, en, ee, o .pads-are, o .padding-is, o .from-is, o .fields .code-is, o .fields .flags-is, o .fields .length-is, o .fields .vendor-is)
+
+  -- p is the padding as a number, oe the flags of the AVP's own header and padding, and e these with its value's
+  pub avp-written : {place depth : ℕ} {store back last : List ℕ} {m : Valued} {p oe e : ℕ}
+      → Room (tree (avps D) s) place (length s) depth (length store)
+      → Members D (a .code) (a .«vendor_id») (lentData s a from) (place + from) depth m (take (length store - recordSize) (drop recordSize store)) back
+      → p ≡ be 3 (lentPadding s a) 0
+      → oe ≡ join (flag (not (eqb (avpReserved (a .flags)) 0)) nonZeroReserved) (flag (not (eqb p 0)) nonZeroPadding)
+      → e ≡ join oe (m .errors)
+      → last ≡ put (recordAs (ownRecord a from place depth p e m)) (putMid recordSize (length store - recordSize) store back)
+      → Written D (tree (avps D) s) place depth (record { records = 1 + m .records; errors = e }) store last
+  avp-written {place} {depth} {store} {back} {m} {p} {oe} {e} room v ep eo ee el =
+      let t = made-here in
+      let w = valueIn D (a .code) (a .«vendor_id») (lentData s a from) in
+      let inside = entered D (a .code) (a .«vendor_id») (lentData s a from) in
+      let own = recordOf place depth s w in
+      let members = records D (place + from) (depth + 1) inside in
+      let errors-are : e ≡ join (ownErrors s) (w .errors) = ee ∙ ap₂ join (own-errors-are p oe ep eo) (v .errors-are) in
+      let own-is : recordAs (ownRecord a from place depth p e m) ≡ own =
+      own-record-is place depth p e m w ep (v .kind-is) (v .number-is) errors-are
+      in
+      let records-are : records D place depth (tree (avps D) s) ≡ own ∷ members =
+      t .records-are place depth ∙ ap (λ (i : ℕ). own ∷ records D (place + i) (depth + 1) inside) (sym (o .from-is))
+      in
+      record {
+        count-is = omega (arith, t .count-is, v .count-is);
+        errors-are = errors-are ∙ sym (t .errors-are);
+        store-is =
+            el
+            ∙ ap (λ (r : rfc.Record). put r (putMid recordSize (length store - recordSize) store back)) own-is
+            ∙ put-before own (laid members) store back (room-for-own room) (v .store-is)
+            ∙ ap (λ (rs : List rfc.Record). over (laid rs) store) (sym records-are);
+      }

@@ -1,0 +1,68 @@
+-- `parse` meets its contract: the limit is tested first, then the header's refusals are the message's, and an accepted header leads
+-- to `parse_body`, whose contract is the same.
+-- Assumes nothing.
+use Prim.Native.Nat.{ℕ}
+use mathlib.Core.Path.{_≡_, refl, sym, ap, _∙_}
+use native.Mathlib.Omega.{arith}
+use lib.ListN.{length}
+use denote.Ref.{now}
+use borrow.Author.Needs.{needs}
+use Rattle.rfc6733.specs.Answer.{refused, incomplete, notVersion, badLength}
+use Rattle.rfc6733.specs.Decoder.{capacity, decoded, stored}
+use Rattle.rfc6733.proofs.Decoded.{message-limit-under, message-limit-over, header-refused}
+use Rattle.attribute.specs.Attributes.{dictionary}
+use Rattle.header.specs.Parsed as header
+use Rattle.diameter.specs.Answers.{answerOf}
+use Rattle.diameter.proofs.parse.Statement.{statement}
+use Rattle.diameter.proofs.parse.Tie as tie
+
+abbrev start : tie.After-parse → tie.Start
+start c = c .before .before .before .before .before
+
+-- the header's refusal is the message's
+refuses : (c : tie.After-parse) (n a : ℕ) → header.answerOf (c .parse .result) ≡ refused n a
+    → let b = start c in refused n a ≡ decoded (dictionary (b .args .reading)) (b .args .limit) (capacity (length (now (b .args .store)))) (now (b .args .input))
+refuses c n a e = header-refused _ _ _ _ (omega arith) (omega arith) n a (sym e ∙ c .parse .ensures)
+
+returns : tie.Need-returns
+unfolding answerOf stored
+returns c = (message-limit-under _ _ _ _ (omega arith), refl)
+
+returns-2 : tie.Need-returns-2
+unfolding answerOf stored
+returns-2 c = (message-limit-over _ _ _ _ (omega arith), refl)
+
+parse-body-requires : tie.Need-parse-body-requires
+parse-body-requires c κs =
+    let h = c .before .before in
+    (record { low = omega arith; high = omega arith }, record { is = ap header.answerOf (sym (h .header .given .1)) ∙ h .before .before .parse .ensures })
+
+returns-4 : tie.Need-returns-4
+unfolding answerOf stored header.answerOf
+returns-4 c = (refuses (c .before .before .before) incomplete _ (ap header.answerOf (c .before .n .given .1)), refl)
+
+returns-5 : tie.Need-returns-5
+unfolding answerOf stored header.answerOf
+returns-5 c = (refuses (c .before .before) notVersion 0 (ap header.answerOf (c .enum-told .given .1)), refl)
+
+returns-6 : tie.Need-returns-6
+unfolding answerOf stored header.answerOf
+returns-6 c = (refuses (c .before .before) badLength 0 (ap header.answerOf (c .enum-told2 .given .1)), refl)
+
+pub parse-spec : {M : Type 1} → statement M
+parse-spec =
+    tie.close
+    (tie.spec
+    returns
+    returns-2
+    (λ c κs. search needs)
+    (λ c. search needs)
+    parse-body-requires
+    (λ c. search needs)
+    (λ c. search needs)
+    (λ c. search needs)
+    (λ c. search needs)
+    (λ c. search needs)
+    returns-4
+    returns-5
+    returns-6)

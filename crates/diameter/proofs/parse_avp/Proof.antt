@@ -1,0 +1,65 @@
+-- `parse_avp` meets its contract: the limit is tested first, then the refusals of what stands at the front, and a complete AVP leads
+-- to `parse_one`, whose contract is the same.
+-- Assumes nothing.
+use Prim.Native.Nat.{ℕ}
+use mathlib.Core.Path.{_≡_, refl, sym, ap, _∙_}
+use native.Mathlib.Omega.{arith}
+use lib.ListN.{length}
+use denote.Ref.{now}
+use borrow.Author.Needs.{needs}
+use Rattle.rfc6733.specs.Answer.{refused, incomplete, badLength}
+use Rattle.rfc6733.specs.Decoder.{capacity, avpAlone, stored}
+use Rattle.rfc6733.proofs.Decoded.{alone-limit-under, alone-limit-over, front-refused}
+use Rattle.attribute.specs.Attributes.{dictionary}
+use Rattle.avp.specs.Front as front
+use Rattle.avp.proofs.Fronts.{was-whole, here}
+use Rattle.diameter.specs.Answers.{avpAnswerOf}
+use Rattle.diameter.proofs.parse_avp.Statement.{statement}
+use Rattle.diameter.proofs.parse_avp.Tie as tie
+
+abbrev start : tie.After-head → tie.Start
+start c = c .before .before .before .before .before
+
+-- the refusal of what stands at the front
+refuses : (c : tie.After-head) (n a : ℕ) → front.answerOf (c .head .result) ≡ refused n a
+    → let b = start c in refused n a ≡ avpAlone (dictionary (b .args .reading)) (b .args .limit) (capacity (length (now (b .args .store)))) (now (b .args .input))
+unfolding front.frontOf
+refuses c n a e = front-refused _ _ _ _ (omega arith) (omega arith) (front.avpOf (now (start c .args .input))) n a (sym (c .head .ensures) ∙ e)
+
+returns : tie.Need-returns
+unfolding avpAnswerOf stored
+returns c = (alone-limit-under _ _ _ _ (omega arith), refl)
+
+returns-2 : tie.Need-returns-2
+unfolding avpAnswerOf stored
+returns-2 c = (alone-limit-over _ _ _ _ (omega arith), refl)
+
+parse-one-requires : tie.Need-parse-one-requires
+parse-one-requires c κs =
+    let a = c .before .before in
+    let w = was-whole _ _ (ap front.answerOf (sym (a .a .given .1)) ∙ a .before .before .head .ensures) in
+    (record { low = omega arith; high = omega arith }, record { whole = w .0; size-is = here _ _ (w .1) .size-is })
+
+returns-4 : tie.Need-returns-4
+unfolding avpAnswerOf stored front.answerOf
+returns-4 c = (refuses (c .before .before .before) incomplete _ (ap front.answerOf (c .before .n .given .1)), refl)
+
+returns-5 : tie.Need-returns-5
+unfolding avpAnswerOf stored front.answerOf
+returns-5 c = (refuses (c .before .before) badLength 0 (ap front.answerOf (c .enum-told .given .1)), refl)
+
+pub parse-avp-spec : {M : Type 1} → statement M
+parse-avp-spec =
+    tie.close
+    (tie.spec
+    returns
+    returns-2
+    (λ c κs. search needs)
+    (λ c. search needs)
+    parse-one-requires
+    (λ c. search needs)
+    (λ c. search needs)
+    (λ c. search needs)
+    (λ c. search needs)
+    returns-4
+    returns-5)

@@ -1,0 +1,38 @@
+-- What the readers of a run, an AVP and a value ask and leave.
+-- Assumes nothing: these are definitions.
+use Prim.Native.Nat.{ℕ, _+_, _-_, _*_, _≤_, _<_, _^_}
+use mathlib.Core.Path.{_≡_}
+use mathlib.Core.List.{List, _++_}
+use lib.ListN.{length, replicate}
+use Rattle.octets.specs.Octets.{over}
+use Rattle.octets.specs.Run.{Tree, deepest}
+use Rattle.rfc6733.specs.Dictionary.{Dictionary}
+use Rattle.rfc6733.specs.Record.{recordSize, laid, errors, records, recordCount}
+use Rattle.rfc6733.specs.Entered.{valueIn, entered}
+use Rattle.diameter.specs.declared.fill.Ran.{Ran}
+use Rattle.diameter.specs.declared.fill.Valued.{Valued}
+
+-- the records of t fit a store of l bytes, the places of n bytes from a place on fit 32 bits, and no depth passes 64
+pub record Room (t : Tree) (place n depth l : ℕ) : Type 0 where
+  pub records-fit : recordCount t * recordSize ≤ l
+  pub places-fit : place + n < 2 ^ 32
+  pub depths-fit : depth + deepest t ≤ 65
+
+-- the records of t stand at the front of the store; their number and their flags are answered
+pub record Written (D : Dictionary) (t : Tree) (place depth : ℕ) (r : Ran) (before after : List ℕ) : Type 0 where
+  pub count-is : r .records ≡ recordCount t
+  pub errors-are : r .errors ≡ errors D t
+  pub store-is : after ≡ over (laid (records D place depth t)) before
+
+-- the value is answered, and the records of the run that was entered stand at the front of the store
+pub record Members (D : Dictionary) (code vendor : ℕ) (s : List ℕ) (place depth : ℕ) (r : Valued) (before after : List ℕ) : Type 0 where
+  pub kind-is : r .kind ≡ valueIn D code vendor s .kind
+  pub number-is : r .number ≡ valueIn D code vendor s .number
+  pub errors-are : r .errors ≡ valueIn D code vendor s .errors
+  pub count-is : r .records ≡ recordCount (entered D code vendor s)
+  pub store-is : after ≡ over (laid (records D place (depth + 1) (entered D code vendor s))) before
+
+-- the store holds the records of t, and zero to its last byte; the flags are theirs
+pub record Filled (D : Dictionary) (t : Tree) (place e : ℕ) (before after : List ℕ) : Type 0 where
+  pub errors-are : e ≡ errors D t
+  pub store-is : after ≡ laid (records D place 1 t) ++ replicate (length before - length (laid (records D place 1 t))) 0

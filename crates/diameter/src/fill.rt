@@ -1,0 +1,159 @@
+// Fills a store with the records of a run that is known to tile and to fit: the run, the AVP and the value call each other in turn.
+use attribute::Reading;
+use attribute::kinds::GROUPED;
+use avp::AVP;
+use avp::Front;
+use flags::ErrorFlags;
+use record::Record;
+use value::Value;
+ghost use mathlib.Core.Path.{_≡_};
+ghost use mathlib.Core.Bool.{true, not};
+ghost use Prim.Native.Nat.{_+_, _≤_, _<_};
+ghost use lib.ListN.{length};
+ghost use lib.Dec.{eqb};
+ghost use Rattle.octets.specs.Octets.{be};
+ghost use Rattle.octets.specs.Run.{tree, tiles};
+ghost use Rattle.rfc6733.specs.Flags.{join, flag, nonZeroReserved, nonZeroPadding};
+ghost use Rattle.rfc6733.specs.Avp.{Exact, avpReserved};
+ghost use Rattle.rfc6733.specs.Record.{avps};
+ghost use Rattle.rfc6733.specs.Entered.{entered};
+ghost use Rattle.avp.specs.Front.{avpOf};
+ghost use Rattle.attribute.specs.Attributes.{dictionary};
+ghost use Rattle.diameter.specs.Fill.{Room, Written, Members};
+
+// How many records, and their error flags joined.
+pub(super) struct Ran {
+    pub records: usize,
+    pub errors: u8,
+}
+
+// What an AVP's data are, and how many records its members have.
+pub(super) struct Valued {
+    pub kind: u8,
+    pub number: u64,
+    pub errors: u8,
+    pub records: usize,
+}
+
+// The padding as a number of three bytes, the absent ones 0.
+fn pads(p: &[u8]) -> u32
+    requires { ⌜ length (now p) ≤ 3 ⌝ }
+    ensures { λ r. ⌜ r ≡ be 3 (now (p .entry)) 0 ⌝ }
+{
+    match p.len() {
+        0 => 0,
+        1 => octets::be_u24(p[0], 0, 0),
+        2 => octets::be_u24(p[0], p[1], 0),
+        _ => octets::be_u24(p[0], p[1], p[2]),
+    }
+}
+
+// The flags of reserved bits and of padding.
+fn own_errors(a: AVP, pads: u32) -> u8
+    ensures { λ r. ⌜ r ≡ join (flag (not (eqb (avpReserved (a .flags)) 0)) nonZeroReserved) (flag (not (eqb pads 0)) nonZeroPadding) ⌝ }
+{
+    flags::join(
+        flags::raised(a.get_reserved() != 0, ErrorFlags::NonZeroReserved as u8),
+        flags::raised(pads != 0, ErrorFlags::NonZeroPadding as u8),
+    )
+}
+
+// The records of the run `s`, which stands at `place` of the input and has the depth `depth`.
+pub(super) fn read_run(reading: Reading, s: &[u8], place: usize, depth: u8, store: &mut [u8]) -> Ran
+    requires { ⌜ tiles (tree (avps (dictionary reading)) (now s)) ≡ true ⌝ }
+    requires { ⌜ Room (tree (avps (dictionary reading)) (now s)) place (length (now s)) depth (length (now store)) ⌝ }
+    ensures { λ r. ⌜ Written (dictionary reading) (tree (avps (dictionary reading)) (now (s .entry))) place depth r (now (store .entry)) (now (store .exit)) ⌝ }
+{
+    let mut at: usize = 0;
+    let mut n: usize = 0;
+    let mut errors: u8 = 0;
+    while at < s.len() {
+        let Front::Whole(a) = AVP::head(&s[at..]) else {
+            return Ran { records: n, errors };
+        };
+        let next = at + a.size;
+        let one = read_avp(
+            reading,
+            &s[at..next],
+            a,
+            place + at,
+            depth,
+            &mut store[n * Record::SIZE..],
+        );
+        n += one.records;
+        errors = flags::join(errors, one.errors);
+        at = next;
+    }
+    Ran { records: n, errors }
+}
+
+// The records of the AVP `a`, whose own bytes are `s`: its own, and its members' after it.
+fn read_avp(reading: Reading, s: &[u8], a: AVP, place: usize, depth: u8, store: &mut [u8]) -> Ran
+    requires { ⌜ (a ≡ avpOf (now s)) × Exact (now s) ⌝ }
+    requires { ⌜ Room (tree (avps (dictionary reading)) (now s)) place (length (now s)) depth (length (now store)) ⌝ }
+    ensures { λ r. ⌜ Written (dictionary reading) (tree (avps (dictionary reading)) (now (s .entry))) place depth r (now (store .entry)) (now (store .exit)) ⌝ }
+{
+    let from = a.header_size();
+    let to = a.length;
+    let value = read_value(
+        reading,
+        a.code,
+        a.vendor_id,
+        &s[from..to],
+        place + from,
+        depth,
+        &mut store[Record::SIZE..],
+    );
+    let pads = pads(&s[to..]);
+    let errors = flags::join(own_errors(a, pads), value.errors);
+    Record {
+        code: a.code,
+        flags: a.flags,
+        length: to as u32,
+        vendor: a.vendor_id,
+        place: (place + from) as u32,
+        depth,
+        kind: value.kind,
+        errors,
+        padding: (a.size - to) as u8,
+        pads,
+        value: value.number,
+    }.put(store);
+    Ran {
+        records: 1 + value.records,
+        errors,
+    }
+}
+
+// The value of an AVP's data, which stand at `place`, and the records of its members, which are one level deeper.
+fn read_value(
+    reading: Reading,
+    code: u32,
+    vendor: u32,
+    data: &[u8],
+    place: usize,
+    depth: u8,
+    store: &mut [u8],
+) -> Valued
+    requires { ⌜ Room (entered (dictionary reading) code vendor (now «data»)) place (length (now «data»)) (depth + 1) (length (now store)) ⌝ }
+    ensures { λ r. ⌜ Members (dictionary reading) code vendor (now («data» .entry)) place depth r (now (store .entry)) (now (store .exit)) ⌝ }
+{
+    let read = Value::new(reading, code, vendor, data);
+    let value = read.value;
+    let kind = value.kind();
+    if kind == GROUPED {
+        let members = read_run(reading, data, place, depth + 1, store);
+        return Valued {
+            kind,
+            number: 0,
+            errors: members.errors,
+            records: members.records,
+        };
+    }
+    Valued {
+        kind,
+        number: value.number(),
+        errors: read.errors,
+        records: 0,
+    }
+}

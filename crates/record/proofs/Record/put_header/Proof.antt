@@ -1,0 +1,27 @@
+-- `put_header` meets its contract: each field is put right behind the one before, so the four are put as one.
+-- Assumes nothing.
+use borrow.Author.Needs.{needs}
+use Rattle.octets.specs.Octets.{octets}
+use Rattle.record.specs.Stored.{recordAs}
+use Rattle.record.proofs.Record.put_header.Statement.{statement}
+use Rattle.record.proofs.Record.put_header.Tie as tie
+
+returns : tie.Need-returns
+unfolding octets recordAs
+returns c =
+    let vendor = c .before .before in
+    let length = vendor .before .before .before .before in
+    let flags = length .before .before .before .before in
+    let code = flags .before .before .before .before in
+    rw (vendor .put-u322 .ensures, length .put-u24 .ensures, flags .put-u8 .ensures, code .put-u32 .ensures)
+
+pub put-header-spec : {M : Type 1} → statement M
+put-header-spec =
+    tie.close
+    (tie.spec
+    (λ c κs. search needs)
+    (λ c κs. search needs)
+    (λ c κs. search needs)
+    (λ c κs. search needs)
+    (λ c. search needs)
+    returns)

@@ -1,0 +1,24 @@
+-- The answer of `put` and its store, by whether there is room: with none the store stays; with room the two parts of the layout,
+-- put one after the other, are the record's bytes.
+-- Assumes nothing.
+use Prim.Native.Nat.{ℕ, _≤_, _<_}
+use mathlib.Core.Path.{_≡_, sym}
+use mathlib.Core.Bool.{true, false}
+use mathlib.Core.List.{List}
+use lib.ListN.{length, take, drop}
+use lib.Seq.{sets, sets-eq}
+use lib.Dec.{leb}
+use borrow.Author.Tests.{le-leb, lt-leb}
+use Rattle.octets.specs.Octets.{octets, pack, over}
+use Rattle.rfc6733.specs.Record.{Record, recordSize, layout, recordBytes}
+use Rattle.record.specs.Stored.{put}
+
+module _ (r : Record) (s : List ℕ) where
+  pub no-room : length s < recordSize → (false ≡ leb recordSize (length s)) × (s ≡ put r s)
+  unfolding put
+  no-room few = let no = lt-leb _ _ few in (sym no, rw no)
+
+  pub with-room : recordSize ≤ length s
+      → (true ≡ leb recordSize (length s)) × (sets (sets s 0 (pack (take 4 (layout r)))) 12 (pack (drop 4 (layout r))) ≡ put r s)
+  unfolding octets over recordBytes put
+  with-room room = let yes = le-leb _ _ room in (sym yes, rw yes (sets-eq (recordBytes r) s 0 room))

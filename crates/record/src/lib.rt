@@ -1,0 +1,175 @@
+// The record of an AVP and its 32 bytes (document 01): written to a store and read from a table.
+// This crate knows the layout, and nothing of how a record comes about.
+ghost use mathlib.Core.Path.{_≡_};
+ghost use mathlib.Core.List.{reverse};
+ghost use Prim.Native.Nat.{_+_, _≤_, _<_};
+ghost use lib.ListN.{length, take, drop, replicate};
+ghost use lib.Seq.{sets};
+ghost use lib.Dec.{leb};
+ghost use Rattle.octets.specs.Octets.{octets, pack, over};
+ghost use Rattle.rfc6733.specs.Record.{recordSize, layout};
+ghost use Rattle.rfc6733.specs.Writer.{recordAt};
+ghost use Rattle.record.specs.Stored.{recordAs, put};
+
+pub struct Record {
+    pub code: u32,
+    pub flags: u8,
+    /// Actually u24
+    pub length: u32,
+    pub vendor: u32,
+    /// Where the data stand in the input
+    pub place: u32,
+    pub depth: u8,
+    pub kind: u8,
+    pub errors: u8,
+    /// How many bytes of padding
+    pub padding: u8,
+    /// The padding as a number of three bytes, the unused ones 0
+    pub pads: u32,
+    pub value: u64,
+}
+
+fn put_u8(store: &mut [u8], at: usize, v: u8)
+    requires { ⌜ at < length (now store) ⌝ }
+    ensures { λ _. ⌜ now (store .exit) ≡ sets (now (store .entry)) at (octets 1 v) ⌝ }
+{
+    store[at] = v;
+}
+
+fn put_u24(store: &mut [u8], at: usize, v: u32)
+    requires { ⌜ at + 3 ≤ length (now store) ⌝ }
+    ensures { λ _. ⌜ now (store .exit) ≡ sets (now (store .entry)) at (octets 3 v) ⌝ }
+{
+    let b = octets::to_be_u24(v);
+    store[at] = b[0];
+    store[at + 1] = b[1];
+    store[at + 2] = b[2];
+}
+
+// The bytes of a number turned round. A number is stored turned round and its lowest byte first: the compiler joins such stores
+// into one wide store, and leaves those with the highest byte first as single bytes.
+fn swap_u32(v: u32) -> u32
+    ensures { λ r. ⌜ octets 4 r ≡ reverse (octets 4 v) ⌝ }
+{
+    let b = octets::to_be_u32(v);
+    octets::be_u32(b[3], b[2], b[1], b[0])
+}
+
+fn swap_u64(v: u64) -> u64
+    ensures { λ r. ⌜ octets 8 r ≡ reverse (octets 8 v) ⌝ }
+{
+    let b = octets::to_be_u64(v);
+    octets::be_u64(b[7], b[6], b[5], b[4], b[3], b[2], b[1], b[0])
+}
+
+fn put_u32(store: &mut [u8], at: usize, v: u32)
+    requires { ⌜ at + 4 ≤ length (now store) ⌝ }
+    ensures { λ _. ⌜ now (store .exit) ≡ sets (now (store .entry)) at (octets 4 v) ⌝ }
+{
+    let b = octets::to_be_u32(swap_u32(v));
+    store[at] = b[3];
+    store[at + 1] = b[2];
+    store[at + 2] = b[1];
+    store[at + 3] = b[0];
+}
+
+fn put_u64(store: &mut [u8], at: usize, v: u64)
+    requires { ⌜ at + 8 ≤ length (now store) ⌝ }
+    ensures { λ _. ⌜ now (store .exit) ≡ sets (now (store .entry)) at (octets 8 v) ⌝ }
+{
+    let b = octets::to_be_u64(swap_u64(v));
+    store[at] = b[7];
+    store[at + 1] = b[6];
+    store[at + 2] = b[5];
+    store[at + 3] = b[4];
+    store[at + 4] = b[3];
+    store[at + 5] = b[2];
+    store[at + 6] = b[1];
+    store[at + 7] = b[0];
+}
+
+impl Record {
+    pub const SIZE: usize = 32;
+
+    // The fields of the AVP's header (RFC 6733, section 4.1).
+    fn put_header(self, store: &mut [u8])
+        requires { ⌜ recordSize ≤ length (now store) ⌝ }
+        ensures { λ _. ⌜ now (store .exit) ≡ sets (now (store .entry)) 0 (pack (take 4 (layout (recordAs self)))) ⌝ }
+    {
+        put_u32(store, 0, self.code);
+        put_u8(store, 4, self.flags);
+        put_u24(store, 5, self.length);
+        put_u32(store, 8, self.vendor);
+    }
+
+    // What was found of its data; byte 23 is zero.
+    fn put_data(self, store: &mut [u8])
+        requires { ⌜ recordSize ≤ length (now store) ⌝ }
+        ensures { λ _. ⌜ now (store .exit) ≡ sets (now (store .entry)) 12 (pack (drop 4 (layout (recordAs self)))) ⌝ }
+    {
+        put_u32(store, 12, self.place);
+        put_u8(store, 16, self.depth);
+        put_u8(store, 17, self.kind);
+        put_u8(store, 18, self.errors);
+        put_u8(store, 19, self.padding);
+        put_u24(store, 20, self.pads);
+        put_u8(store, 23, 0);
+        put_u64(store, 24, self.value);
+    }
+
+    /// Puts the record at the front of a store, if there is room.
+    pub fn put(self, store: &mut [u8]) -> bool
+        ensures is { λ r. ⌜ r ≡ leb recordSize (length (now (store .entry))) ⌝ }
+        ensures store { λ r. ⌜ now (store .exit) ≡ put (recordAs self) (now (store .entry)) ⌝ }
+    {
+        if store.len() < Self::SIZE {
+            return false;
+        }
+        self.put_header(store);
+        self.put_data(store);
+        true
+    }
+
+    // A table that is shorter than a record, with 0 for each byte that is absent.
+    fn padded(table: &[u8]) -> [u8; Self::SIZE]
+        requires { ⌜ length (now table) ≤ recordSize ⌝ }
+        ensures { λ r. ⌜ r ≡ over (now (table .entry)) (replicate recordSize 0) ⌝ }
+    {
+        let mut bytes = [0; Self::SIZE];
+        for i in 0..table.len() {
+            bytes[i] = table[i];
+        }
+        bytes
+    }
+
+    // Bytes 18, 23 and 24 to 31 are not read.
+    fn fields(table: &[u8]) -> Record
+        requires { ⌜ recordSize ≤ length (now table) ⌝ }
+        ensures { λ r. ⌜ recordAs r ≡ recordAt (now (table .entry)) ⌝ }
+    {
+        Record {
+            code: octets::be_u32(table[0], table[1], table[2], table[3]),
+            flags: table[4],
+            length: octets::be_u24(table[5], table[6], table[7]),
+            vendor: octets::be_u32(table[8], table[9], table[10], table[11]),
+            place: octets::be_u32(table[12], table[13], table[14], table[15]),
+            depth: table[16],
+            kind: table[17],
+            errors: 0,
+            padding: table[19],
+            pads: octets::be_u24(table[20], table[21], table[22]),
+            value: 0,
+        }
+    }
+
+    /// The record at the front of a table, as the writer takes it: with no errors and no value.
+    /// A byte that is absent counts as 0.
+    pub fn get(table: &[u8]) -> Record
+        ensures { λ r. ⌜ recordAs r ≡ recordAt (now (table .entry)) ⌝ }
+    {
+        if table.len() < Self::SIZE {
+            return Self::fields(&Self::padded(table));
+        }
+        Self::fields(table)
+    }
+}

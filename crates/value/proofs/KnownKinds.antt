@@ -1,0 +1,104 @@
+-- Which kinds there are. A `match` says of a number that it is one of several, or none of them; and a table has no kind above the
+-- greatest of its rows, which is 14, by computation, in both dictionaries.
+-- Assumes nothing.
+use Prim.Native.Nat.{ℕ, suc, max, _≤_}
+use mathlib.Core.Path.{_≡_, refl}
+use mathlib.Core.Bool.{Bool, true, false, cond, _||_}
+use mathlib.Core.List.{List, [], _∷_, _++_}
+use mathlib.Core.Logic.{inl, inr}
+use native.Mathlib.Omega.{arith}
+use types.Run.{OneOf}
+use lib.Dec.{eqb}
+use borrow.Author.Tests.{eq-eqb, ne-eqb, eqb-true}
+use Rattle.octets.proofs.Runs.{false-true}
+use Rattle.rfc6733.specs.Value.{oneOf, unhandled, time}
+use Rattle.rfc6733.specs.Dictionary.{Row, kindIn, baseAvps, sawpAvps, sawp, rfc}
+use Rattle.attribute.specs.Attributes.{dictionary}
+use Rattle.attribute.specs.declared.Reading.{Reading}
+use Rattle.attribute.specs.declared.Reading.the-variants.{Sawp, Rfc}
+use Rattle.value.specs.Values.{kinds32, kinds64}
+
+-- ---- one of several numbers
+
+abbrev Each : (ℕ → Type 0) → List ℕ → Type 0
+Each P [] = Unit {0}
+Each P (x ∷ xs) = P x × Each P xs
+
+-- what holds of each of them holds of one of them
+pub of-one : (P : ℕ → Type 0) (ks : List ℕ) → Each P ks → (k : ℕ) → OneOf ks k → P k
+of-one P [] all k h = absurd h
+of-one P (x ∷ []) all k h = rw h (all .0)
+of-one P (x ∷ y ∷ ks) all k (inl e) = rw e (all .0)
+of-one P (x ∷ y ∷ ks) all k (inr h) = of-one P (y ∷ ks) (all .1) k h
+
+pub one-of : (ks : List ℕ) (k : ℕ) → OneOf ks k → oneOf k ks ≡ true
+one-of [] k h = absurd h
+one-of (x ∷ []) k h = rw (eq-eqb k x h)
+one-of (x ∷ y ∷ ks) k (inl e) = rw (eq-eqb k x e)
+one-of (x ∷ y ∷ ks) k (inr h) = rw (one-of (y ∷ ks) k h) (or-true (eqb k x))
+  where
+    or-true : (b : Bool) → b || true ≡ true
+    or-true true = refl
+    or-true false = refl
+
+-- ---- the number that is left
+
+-- what the default of a match knows: what was known before, and that k is none of the numbers listed
+abbrev Unlisted : Type 0 → ℕ → List ℕ → Type 0
+Unlisted known k [] = known
+Unlisted known k (x ∷ xs) = Unlisted (known × (k ≡ x → ⊥)) k xs
+
+only : (k x : ℕ) → oneOf k (x ∷ []) ≡ true → k ≡ x
+only k x = by (eqb k x) (eqb-true k x)
+  where
+    by : (b : Bool) → (b ≡ true → k ≡ x) → b || false ≡ true → k ≡ x
+    by true same h = same refl
+    by false same h = absurd (false-true h)
+
+unlisted : (known : Type 0) (k : ℕ) (xs : List ℕ) (x : ℕ) → Unlisted known k xs → known × (oneOf k (xs ++ (x ∷ [])) ≡ true → k ≡ x)
+unlisted known k [] x u = (u, only k x)
+unlisted known k (y ∷ ys) x u =
+    let rest = unlisted (known × (k ≡ y → ⊥)) k ys x u in
+    (rest .0 .0, λ h. rest .1 (rw (ne-eqb k y (rest .0 .1)) at h))
+
+-- one of several, and none of the first ones, is the last
+pub last-one : {k : ℕ} (xs : List ℕ) (x : ℕ) → Unlisted (Unit {0}) k xs → oneOf k (xs ++ (x ∷ [])) ≡ true → k ≡ x
+last-one {k} xs x u = unlisted (Unit {0}) k xs x u .1
+
+lower : {k n : ℕ} → (k ≡ suc n → ⊥) → k ≤ suc n → k ≤ n
+lower other h = omega arith
+
+-- what is none of the kinds that a `match` lists is Unhandled
+pub none-left : {k : ℕ} → k ≤ time → (k ≡ 1 → ⊥) → (OneOf kinds32 k → ⊥) → (OneOf kinds64 k → ⊥) → (k ≡ 8 → ⊥) → (k ≡ 10 → ⊥)
+    → (k ≡ 11 → ⊥) → (k ≡ 12 → ⊥) → (k ≡ 13 → ⊥) → k ≡ unhandled
+none-left {k} h k1 k32 k64 k8 k10 k11 k12 k13 =
+    let to-13 : k ≤ 13 = lower (λ e. k32 (inr (inr (inr (inr e))))) h in
+    let to-9 : k ≤ 9 = lower k10 (lower k11 (lower k12 (lower k13 to-13))) in
+    let to-7 : k ≤ 7 = lower k8 (lower (λ e. k32 (inr (inr (inr (inl e))))) to-9) in
+    let to-5 : k ≤ 5 = lower (λ e. k32 (inr (inr (inl e)))) (lower (λ e. k64 (inr (inr e))) to-7) in
+    let to-3 : k ≤ 3 = lower (λ e. k32 (inr (inl e))) (lower (λ e. k64 (inr (inl e))) to-5) in
+    let to-0 : k ≤ 0 = lower k1 (lower (λ e. k32 (inl e)) (lower (λ e. k64 (inl e)) to-3)) in
+    omega arith
+
+-- ---- the greatest kind
+
+abbrev greatestKind : List Row → ℕ
+greatestKind [] = 0
+greatestKind (r ∷ rs) = max (r .kind) (greatestKind rs)
+
+kind-within : (rs : List Row) (c : ℕ) → kindIn rs c ≤ greatestKind rs
+kind-within [] c = omega arith
+kind-within (r ∷ rs) c = by (eqb c (r .code)) (kind-within rs c)
+  where
+    by : (b : Bool) → kindIn rs c ≤ greatestKind rs → cond b (r .kind) (kindIn rs c) ≤ max (r .kind) (greatestKind rs)
+    by true h = omega arith
+    by false h = omega arith
+
+pub kind-at-most : (reading : Reading) (code vendor : ℕ) → dictionary reading .kind code vendor ≤ time
+unfolding dictionary sawp rfc
+kind-at-most Sawp code vendor = kind-within sawpAvps code
+kind-at-most Rfc code vendor = by (eqb vendor 0)
+  where
+    by : (b : Bool) → cond b (kindIn baseAvps code) 0 ≤ time
+    by true = kind-within baseAvps code
+    by false = omega arith

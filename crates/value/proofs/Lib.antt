@@ -1,0 +1,6 @@
+pub mod Addresses
+pub mod KnownKinds
+pub mod NewValue
+pub mod ReadAs
+pub mod Shown
+pub mod Signed

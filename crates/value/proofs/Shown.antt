@@ -1,0 +1,80 @@
+-- What a value of the code shows. A value that shows another kind is no Address, so nothing more is asked of it; an Address is
+-- asked for its family besides.
+-- Assumes nothing.
+use Prim.Native.Nat.{ℕ, _<_, _≤_}
+use mathlib.Core.Path.{_≡_, refl, sym, ap, _∙_}
+use mathlib.Core.Bool.{Bool, true, false, cond}
+use mathlib.Core.List.{List}
+use lib.ListN.{length}
+use lib.Dec.{ltb, eqb}
+use borrow.Author.Tests.{lt-ltb, le-ltb, eqb-false}
+use Rattle.octets.specs.Octets.{be}
+use Rattle.rfc6733.specs.Flags.{dataValue, dataLength, flag}
+use Rattle.rfc6733.specs.Value as rfc
+use Rattle.rfc6733.specs.Value.{value, address, unhandled, fixed}
+use Rattle.value.specs.declared.Value.{Value}
+use Rattle.value.specs.declared.Value.the-variants.{Unhandled, Address}
+use Rattle.value.specs.declared.IpAddr.{IpAddr}
+use Rattle.value.specs.declared.IpAddr.the-variants.{V4, V6}
+use Rattle.value.specs.declared.Read.{Read}
+use Rattle.value.specs.Values.{kindOf, addressNumber, numberOf, readAs, addressOf, Shows}
+
+-- r was made of a value and its error flags
+abbrev pub Made : Value → ℕ → Read → Type 0
+Made v e r = (r .value ≡ v) × (r .errors ≡ e)
+
+pub read-as : (r : Read) (v : Value) (e : ℕ) → Made v e r → readAs r ≡ value (kindOf v) e (numberOf v)
+unfolding readAs
+read-as r v e made = rw (made .0, made .1)
+
+-- ---- too few data for a number, and enough
+
+pub too-few : (w k : ℕ) (s : List ℕ) (r : Read) → length s < w → Made Unhandled dataLength r → readAs r ≡ fixed w k s
+unfolding fixed
+too-few w k s r few made = rw (lt-ltb _ _ few) (read-as r Unhandled dataLength made)
+
+pub enough : (w : ℕ) (s : List ℕ) (v : Value) (k e : ℕ) → w ≤ length s → kindOf v ≡ k → numberOf v ≡ be w s 0
+    → e ≡ flag (ltb w (length s)) dataLength → readAs (record { value = v; errors = e }) ≡ fixed w k s
+unfolding fixed readAs
+enough w s v k e some kind number raised = rw (le-ltb _ _ some, kind, number, raised)
+
+fixed-kind : (w k : ℕ) (s : List ℕ) → eqb k address ≡ false → eqb (fixed w k s .kind) address ≡ false
+unfolding fixed
+fixed-kind w k s other = by (ltb (length s) w)
+  where
+    by : (b : Bool)
+        → eqb (cond b (value unhandled dataLength 0) (value k (flag (ltb w (length s)) dataLength) (be w s 0)) .kind) address ≡ false
+    by true = refl
+    by false = other
+
+-- ---- what a value shows of the data
+
+module _ (s : List ℕ) (r : Read) where
+  -- another kind is no Address
+  pub no-address : (v : rfc.Value) → readAs r ≡ v → eqb (v .kind) address ≡ false → Shows v s r
+  unfolding readAs
+  no-address v e other =
+      let kind : v .kind ≡ kindOf (r .value) = sym (ap (λ (x : rfc.Value). x .kind) e) in
+      record { value = e; address = λ a is. absurd (eqb-false _ _ other (kind ∙ ap kindOf is)) }
+
+  pub a-number : (w k : ℕ) → readAs r ≡ fixed w k s → eqb k address ≡ false → Shows (fixed w k s) s r
+  a-number w k e other = no-address (fixed w k s) e (fixed-kind w k s other)
+
+  pub is-unhandled : (e : ℕ) → Made Unhandled e r → Shows (value unhandled e 0) s r
+  is-unhandled e made = no-address (value unhandled e 0) (read-as r Unhandled e made) refl
+
+  -- a value without a number, where its data pass a test
+  pub by-test : (ok : Bool) (v : Value) → numberOf v ≡ 0 → eqb (kindOf v) address ≡ false → Made (cond ok v Unhandled) (cond ok 0 dataValue) r
+      → Shows (cond ok (value (kindOf v) 0 0) (value unhandled dataValue 0)) s r
+  by-test true v none other made = no-address (value (kindOf v) 0 0) (read-as r v 0 made ∙ ap (value (kindOf v) 0) none) other
+  by-test false v none other made = is-unhandled dataValue made
+
+  an-address : (a : IpAddr) → Made (Address a) 0 r → a ≡ addressOf s (addressNumber a) → Shows (value address 0 (addressNumber a)) s r
+  an-address a made told =
+      record { value = read-as r (Address a) 0 made; address = λ b is. let same : b ≡ a = cc (made .0) in same ∙ told }
+
+  pub ipv4 : (n : ℕ) → length s < 16 → Made (Address (V4 n)) 0 r → Shows (value address 0 n) s r
+  ipv4 n few made = an-address (V4 n) made (rw (lt-ltb _ _ few))
+
+  pub ipv6 : 16 ≤ length s → Made (Address V6) 0 r → Shows (value address 0 0) s r
+  ipv6 room made = an-address V6 made (rw (le-ltb _ _ room))

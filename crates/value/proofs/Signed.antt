@@ -1,0 +1,40 @@
+-- Signed differences at 64 bits. A number of 32 bits less one from 1 to 2 ^ 32 is far within the range, so that what the machine
+-- computes is the difference itself.
+-- Assumes nothing.
+use Prim.Native.Nat.{ℕ, suc, _-_, _^_, _≤_, _<_}
+use mathlib.Core.Path.{_≡_, sym, ap, subst, _∙_}
+use mathlib.Core.Bool.{Bool, true, false, cond}
+use native.Mathlib.Omega.{arith}
+use lib.IntN.{ℤ, pos, negsuc, _-ℤ_}
+use lib.Dec.{ltb}
+use mir.Syntax.{w64}
+use mir.Val.{SFits, toZ, ofZ}
+use mir.ValLaws.{toZ-pos, toZ-ofZ}
+use borrow.Author.Tests.{lt-ltb, le-ltb}
+use Rattle.rfc6733.specs.Signed.{signed32}
+
+within : (v n : ℕ) → v < 2 ^ 32 → n < 2 ^ 32 → SFits w64 (pos v -ℤ pos (suc n))
+within v n hv hn = by (ltb v (suc n))
+  where
+    by : (b : Bool) → SFits w64 (cond b (negsuc (suc n - suc v)) (pos (v - suc n)))
+    by true = record { sfits = omega arith }
+    by false = record { sfits = omega arith }
+
+module _ (v : ℕ) (small : v < 2 ^ 32) where
+  read-as-signed : toZ w64 v ≡ pos v
+  read-as-signed = toZ-pos w64 v (omega arith)
+
+  pub difference-fits : {n : ℕ} → n < 2 ^ 32 → SFits w64 (toZ w64 v -ℤ pos (suc n))
+  difference-fits {n} little = subst (λ (z : ℤ). SFits w64 (z -ℤ pos (suc n))) (sym read-as-signed) (within v n small little)
+
+  pub difference-is : {n : ℕ} → n < 2 ^ 32 → toZ w64 (ofZ w64 (toZ w64 v -ℤ pos (suc n))) ≡ pos v -ℤ pos (suc n)
+  difference-is {n} little =
+      toZ-ofZ w64 (toZ w64 v -ℤ pos (suc n)) (difference-fits little) ∙ ap (λ (z : ℤ). z -ℤ pos (suc n)) read-as-signed
+
+  pub lower-half : v < 2 ^ 31 → toZ w64 v ≡ signed32 v
+  unfolding signed32
+  lower-half h = rw (lt-ltb v (2 ^ 31) h) read-as-signed
+
+  pub upper-half : 2 ^ 31 ≤ v → toZ w64 (ofZ w64 (toZ w64 v -ℤ pos (2 ^ 32))) ≡ signed32 v
+  unfolding signed32
+  upper-half h = rw (le-ltb v (2 ^ 31) h) (difference-is (omega arith))

@@ -1,0 +1,18 @@
+-- `unix_seconds` meets its contract: it is the difference of the definition, which fits.
+-- Assumes nothing.
+use borrow.Author.Needs.{needs}
+use native.Mathlib.Omega.{arith}
+use Rattle.rfc6733.specs.Signed.{unixSeconds}
+use Rattle.value.proofs.Signed.{difference-fits, difference-is}
+use Rattle.value.proofs.unix_seconds.Statement.{statement}
+use Rattle.value.proofs.unix_seconds.Tie as tie
+
+sub-result : tie.Need-sub-result
+sub-result c = difference-fits (c .args .time) (omega arith) (omega arith)
+
+returns : tie.Need-returns
+unfolding unixSeconds
+returns c = difference-is (c .args .time) (omega arith) (omega arith)
+
+pub unix-seconds-spec : {M : Type 1} → statement M
+unix-seconds-spec = tie.close (tie.spec (λ c. search needs) sub-result returns)

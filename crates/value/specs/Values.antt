@@ -1,0 +1,86 @@
+-- What data are in a reading: a value of the code as one of the definition.
+-- Assumes nothing: these are definitions.
+use Prim.Native.Nat.{ℕ}
+use mathlib.Core.Path.{_≡_}
+use mathlib.Core.Bool.{cond}
+use mathlib.Core.List.{List, [], _∷_}
+use lib.ListN.{length}
+use lib.Dec.{ltb, eqb}
+use Rattle.rfc6733.specs.Flags.{dataValue}
+use Rattle.rfc6733.specs.Value as rfc
+use Rattle.rfc6733.specs.Dictionary.{Dictionary}
+use Rattle.rfc6733.specs.Record.{tiling}
+use Rattle.value.specs.declared.Value.{Value}
+use Rattle.value.specs.declared.Value.the-variants.{Unhandled, OctetString, Integer32, Integer64, Unsigned32, Unsigned64, Float32, Float64, Grouped, Enumerated, UTF8String, DiameterIdentity, DiameterURI, Address, Time}
+use Rattle.value.specs.declared.IpAddr.{IpAddr}
+use Rattle.value.specs.declared.IpAddr.the-variants.{V4, V6}
+use Rattle.value.specs.declared.Read.{Read}
+
+-- the kind of a value
+abbrev pub kindOf : Value → ℕ
+kindOf Unhandled = rfc.unhandled
+kindOf OctetString = rfc.octetString
+kindOf (Integer32 n) = rfc.integer32
+kindOf (Integer64 n) = rfc.integer64
+kindOf (Unsigned32 n) = rfc.unsigned32
+kindOf (Unsigned64 n) = rfc.unsigned64
+kindOf (Float32 n) = rfc.float32
+kindOf (Float64 n) = rfc.float64
+kindOf Grouped = rfc.grouped
+kindOf (Enumerated n) = rfc.enumerated
+kindOf UTF8String = rfc.utf8String
+kindOf DiameterIdentity = rfc.diameterIdentity
+kindOf DiameterURI = rfc.diameterURI
+kindOf (Address a) = rfc.address
+kindOf (Time n) = rfc.time
+
+-- an IPv4 address is a number; an IPv6 address stays in the input
+abbrev pub addressNumber : IpAddr → ℕ
+addressNumber (V4 n) = n
+addressNumber V6 = 0
+
+-- the number in a record's value field
+abbrev pub numberOf : Value → ℕ
+numberOf Unhandled = 0
+numberOf OctetString = 0
+numberOf (Integer32 n) = n
+numberOf (Integer64 n) = n
+numberOf (Unsigned32 n) = n
+numberOf (Unsigned64 n) = n
+numberOf (Float32 n) = n
+numberOf (Float64 n) = n
+numberOf Grouped = 0
+numberOf (Enumerated n) = n
+numberOf UTF8String = 0
+numberOf DiameterIdentity = 0
+numberOf DiameterURI = 0
+numberOf (Address a) = addressNumber a
+numberOf (Time n) = n
+
+-- what a value of the code shows
+unfoldable pub readAs : Read → rfc.Value
+readAs r = rfc.value (kindOf (r .value)) (r .errors) (numberOf (r .value))
+
+-- the kinds of numbers of 32 and of 64 bits
+abbrev pub kinds32 : List ℕ
+kinds32 = rfc.integer32 ∷ rfc.unsigned32 ∷ rfc.float32 ∷ rfc.enumerated ∷ rfc.time ∷ []
+
+abbrev pub kinds64 : List ℕ
+kinds64 = rfc.integer64 ∷ rfc.unsigned64 ∷ rfc.float64 ∷ []
+
+-- an IPv6 address takes 16 bytes. Fewer hold an IPv4 address, whose number is n
+abbrev pub addressOf : List ℕ → ℕ → IpAddr
+addressOf s n = cond (ltb (length s) 16) (V4 n) V6
+
+-- r is the value v of the data s. Kind and number do not tell 0.0.0.0 from an IPv6 address, so that of an Address it is said which
+-- address it is
+pub record Shows (v : rfc.Value) (s : List ℕ) (r : Read) : Type 0 where
+  pub value : readAs r ≡ v
+  pub address : (a : IpAddr) → r .value ≡ Address a → a ≡ addressOf s (v .number)
+
+-- the data of an AVP by its code and vendor. Of a group it is only asked whether its members tile: their flags are their own
+unfoldable pub newValue : Dictionary → ℕ → ℕ → List ℕ → rfc.Value
+newValue D code vendor s =
+    cond (eqb (D .kind code vendor) rfc.grouped)
+    (cond (tiling s) (rfc.value rfc.grouped 0 0) (rfc.value rfc.unhandled dataValue 0))
+    (rfc.readAs (D .asAddress) (D .kind code vendor) s)

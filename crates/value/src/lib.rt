@@ -1,0 +1,315 @@
+// What an AVP's data are: a typed value with its error flags, in both readings.
+// This crate knows the data of one AVP, and nothing of records or of nesting.
+use attribute::Reading;
+use attribute::kinds::ADDRESS;
+use attribute::kinds::DIAMETER_IDENTITY;
+use attribute::kinds::DIAMETER_URI;
+use attribute::kinds::ENUMERATED;
+use attribute::kinds::FLOAT32;
+use attribute::kinds::FLOAT64;
+use attribute::kinds::GROUPED;
+use attribute::kinds::INTEGER32;
+use attribute::kinds::INTEGER64;
+use attribute::kinds::OCTET_STRING;
+use attribute::kinds::TIME;
+use attribute::kinds::UNHANDLED;
+use attribute::kinds::UNSIGNED32;
+use attribute::kinds::UNSIGNED64;
+use attribute::kinds::UTF8_STRING;
+use flags::ErrorFlags;
+ghost use mathlib.Core.Path.{_≡_};
+ghost use mathlib.Core.Bool.{true, cond};
+ghost use Rattle.rfc6733.specs.Signed.{signed32, unixSeconds};
+ghost use Rattle.rfc6733.specs.Dictionary.{bareAddress, familyAddress};
+ghost use Rattle.rfc6733.specs.Value.{oneOf, fixed};
+ghost use Rattle.rfc6733.specs.Flags.{dataValue};
+ghost use Rattle.attribute.specs.Attributes.{dictionary};
+ghost use Rattle.value.specs.Values.{kindOf, addressNumber, numberOf, readAs, kinds32, kinds64, Shows, newValue};
+
+/// AVP Data Format as specified in RFC 6733, section 4.2. Data that are no number stay in the input;
+/// a number is held as its bits, whatever its sign or form.
+pub enum Value {
+    Unhandled,
+    OctetString,
+    Integer32(u32),
+    Integer64(u64),
+    Unsigned32(u32),
+    Unsigned64(u64),
+    Float32(u32),
+    Float64(u64),
+    Grouped,
+    Enumerated(u32),
+    UTF8String,
+    DiameterIdentity,
+    DiameterURI,
+    Address(IpAddr),
+    Time(u32),
+}
+
+/// An IPv4 address as a number. An IPv6 address stays in the input.
+pub enum IpAddr {
+    V4(u32),
+    V6,
+}
+
+/// A value with the error flags that reading it raised.
+pub struct Read {
+    pub value: Value,
+    pub errors: u8,
+}
+
+impl IpAddr {
+    const V4_SIZE: usize = 4;
+
+    const V6_SIZE: usize = 16;
+
+    // Address families (IANA, "Address Family Numbers"), which stand before the address in the RFC reading.
+    const FAMILY_SIZE: usize = 2;
+
+    const V4_FAMILY: u32 = 1;
+
+    const V6_FAMILY: u32 = 2;
+
+    // The number in a record's value field.
+    fn number(self) -> u64
+        ensures { λ r. ⌜ r ≡ addressNumber self ⌝ }
+    {
+        match self {
+            IpAddr::V4(bits) => bits as u64,
+            IpAddr::V6 => 0,
+        }
+    }
+}
+
+impl Read {
+    fn good(value: Value) -> Read
+        ensures { λ r. ⌜ (r .value ≡ value) × (r .errors ≡ 0) ⌝ }
+    {
+        Read { value, errors: 0 }
+    }
+
+    fn unhandled(errors: u8) -> Read
+        ensures { λ r. ⌜ (r .value ≡ Value.Unhandled) × (r .errors ≡ errors) ⌝ }
+    {
+        Read {
+            value: Value::Unhandled,
+            errors,
+        }
+    }
+
+    // A value whose data must pass a test. Data that don't pass are Unhandled.
+    fn tested(ok: bool, value: Value) -> Read
+        ensures { λ r. ⌜ (r .value ≡ cond ok value Value.Unhandled) × (r .errors ≡ cond ok 0 dataValue) ⌝ }
+    {
+        if ok {
+            return Read::good(value);
+        }
+        Read::unhandled(ErrorFlags::DataValue as u8)
+    }
+
+    // A number of 32 bits. With surplus data it is kept; with too few the data are Unhandled.
+    fn fixed_32(kind: u8, data: &[u8]) -> Read
+        requires { ⌜ oneOf kind kinds32 ≡ true ⌝ }
+        ensures { λ r. ⌜ readAs r ≡ fixed 4 kind (now («data» .entry)) ⌝ }
+    {
+        let size = data.len();
+        if size < Value::SIZE_32 {
+            return Read::unhandled(ErrorFlags::DataLength as u8);
+        }
+        let bits = octets::be_u32(data[0], data[1], data[2], data[3]);
+        Read {
+            value: Value::of_32(kind, bits),
+            errors: flags::raised(Value::SIZE_32 < size, ErrorFlags::DataLength as u8),
+        }
+    }
+
+    // A number of 64 bits, in the same way.
+    fn fixed_64(kind: u8, data: &[u8]) -> Read
+        requires { ⌜ oneOf kind kinds64 ≡ true ⌝ }
+        ensures { λ r. ⌜ readAs r ≡ fixed 8 kind (now («data» .entry)) ⌝ }
+    {
+        let size = data.len();
+        if size < Value::SIZE_64 {
+            return Read::unhandled(ErrorFlags::DataLength as u8);
+        }
+        let bits = octets::be_u64(
+            data[0],
+            data[1],
+            data[2],
+            data[3],
+            data[4],
+            data[5],
+            data[6],
+            data[7],
+        );
+        Read {
+            value: Value::of_64(kind, bits),
+            errors: flags::raised(Value::SIZE_64 < size, ErrorFlags::DataLength as u8),
+        }
+    }
+
+    // An Address of the sawp reading: the address alone.
+    fn bare_address(data: &[u8]) -> Read
+        ensures { λ r. ⌜ Shows (bareAddress (now («data» .entry))) (now («data» .entry)) r ⌝ }
+    {
+        let size = data.len();
+        if size == IpAddr::V4_SIZE {
+            let bits = octets::be_u32(data[0], data[1], data[2], data[3]);
+            return Read::good(Value::Address(IpAddr::V4(bits)));
+        }
+        if size == IpAddr::V6_SIZE {
+            return Read::good(Value::Address(IpAddr::V6));
+        }
+        Read::unhandled(ErrorFlags::DataLength as u8)
+    }
+
+    // An Address of the RFC reading: a family, then the address (RFC 6733, section 4.3.1).
+    fn family_address(data: &[u8]) -> Read
+        ensures { λ r. ⌜ Shows (familyAddress (now («data» .entry))) (now («data» .entry)) r ⌝ }
+    {
+        let size = data.len();
+        if size < IpAddr::FAMILY_SIZE {
+            return Read::unhandled(ErrorFlags::DataLength as u8);
+        }
+        let family = octets::be_u24(0, data[0], data[1]);
+        if family == IpAddr::V4_FAMILY {
+            if size != IpAddr::FAMILY_SIZE + IpAddr::V4_SIZE {
+                return Read::unhandled(ErrorFlags::DataLength as u8);
+            }
+            let bits = octets::be_u32(data[2], data[3], data[4], data[5]);
+            return Read::good(Value::Address(IpAddr::V4(bits)));
+        }
+        if family != IpAddr::V6_FAMILY {
+            return Read::unhandled(0);
+        }
+        if size != IpAddr::FAMILY_SIZE + IpAddr::V6_SIZE {
+            return Read::unhandled(ErrorFlags::DataLength as u8);
+        }
+        Read::good(Value::Address(IpAddr::V6))
+    }
+}
+
+impl Value {
+    // RFC 6733, section 4.2: how many bytes the numbers of 32 and of 64 bits take.
+    const SIZE_32: usize = 4;
+
+    const SIZE_64: usize = 8;
+
+    // A number by its kind, one of those of 32 bits.
+    fn of_32(kind: u8, bits: u32) -> Value
+        requires { ⌜ oneOf kind kinds32 ≡ true ⌝ }
+        ensures { λ r. ⌜ (kindOf r ≡ kind) × (numberOf r ≡ bits) ⌝ }
+    {
+        match kind {
+            INTEGER32 => Value::Integer32(bits),
+            UNSIGNED32 => Value::Unsigned32(bits),
+            FLOAT32 => Value::Float32(bits),
+            ENUMERATED => Value::Enumerated(bits),
+            _ => Value::Time(bits),
+        }
+    }
+
+    // A number by its kind, one of those of 64 bits.
+    fn of_64(kind: u8, bits: u64) -> Value
+        requires { ⌜ oneOf kind kinds64 ≡ true ⌝ }
+        ensures { λ r. ⌜ (kindOf r ≡ kind) × (numberOf r ≡ bits) ⌝ }
+    {
+        match kind {
+            INTEGER64 => Value::Integer64(bits),
+            UNSIGNED64 => Value::Unsigned64(bits),
+            _ => Value::Float64(bits),
+        }
+    }
+
+    /// The value of an AVP's data by its code and vendor.
+    pub fn new(reading: Reading, code: u32, vendor: u32, data: &[u8]) -> Read
+        ensures { λ r. ⌜ Shows (newValue (dictionary reading) code vendor (now («data» .entry))) (now («data» .entry)) r ⌝ }
+    {
+        let kind = attribute::kind(reading, code, vendor);
+        match kind {
+            OCTET_STRING => Read::good(Value::OctetString),
+            INTEGER32 | UNSIGNED32 | FLOAT32 | ENUMERATED | TIME => Read::fixed_32(kind, data),
+            INTEGER64 | UNSIGNED64 | FLOAT64 => Read::fixed_64(kind, data),
+            GROUPED => Read::tested(avp::tiles(data), Value::Grouped),
+            UTF8_STRING => Read::tested(rfc3629::is_utf8(data), Value::UTF8String),
+            DIAMETER_IDENTITY => Read::tested(rfc3629::is_utf8(data), Value::DiameterIdentity),
+            DIAMETER_URI => Read::tested(rfc3629::is_utf8(data), Value::DiameterURI),
+            ADDRESS => match reading {
+                Reading::Sawp => Read::bare_address(data),
+                Reading::Rfc => Read::family_address(data),
+            },
+            _ => Read::unhandled(0),
+        }
+    }
+
+    /// The kind of a value (document 01).
+    pub fn kind(self) -> u8
+        ensures { λ r. ⌜ r ≡ kindOf self ⌝ }
+    {
+        match self {
+            Value::Unhandled => UNHANDLED,
+            Value::OctetString => OCTET_STRING,
+            Value::Integer32(_) => INTEGER32,
+            Value::Integer64(_) => INTEGER64,
+            Value::Unsigned32(_) => UNSIGNED32,
+            Value::Unsigned64(_) => UNSIGNED64,
+            Value::Float32(_) => FLOAT32,
+            Value::Float64(_) => FLOAT64,
+            Value::Grouped => GROUPED,
+            Value::Enumerated(_) => ENUMERATED,
+            Value::UTF8String => UTF8_STRING,
+            Value::DiameterIdentity => DIAMETER_IDENTITY,
+            Value::DiameterURI => DIAMETER_URI,
+            Value::Address(_) => ADDRESS,
+            Value::Time(_) => TIME,
+        }
+    }
+
+    /// The number in a record's value field.
+    pub fn number(self) -> u64
+        ensures { λ r. ⌜ r ≡ numberOf self ⌝ }
+    {
+        match self {
+            Value::Unhandled => 0,
+            Value::OctetString => 0,
+            Value::Integer32(n) => n as u64,
+            Value::Integer64(n) => n,
+            Value::Unsigned32(n) => n as u64,
+            Value::Unsigned64(n) => n,
+            Value::Float32(n) => n as u64,
+            Value::Float64(n) => n,
+            Value::Grouped => 0,
+            Value::Enumerated(n) => n as u64,
+            Value::UTF8String => 0,
+            Value::DiameterIdentity => 0,
+            Value::DiameterURI => 0,
+            Value::Address(address) => address.number(),
+            Value::Time(n) => n as u64,
+        }
+    }
+}
+
+// Two's complement: a pattern of 32 bits from SIGN_BIT on stands for the number that is less by PATTERNS.
+const SIGN_BIT: u32 = 0x8000_0000;
+
+const PATTERNS: i64 = 0x1_0000_0000;
+
+/// An Enumerated of the RFC reading, which is signed.
+pub fn signed_enumerated(bits: u32) -> i64
+    ensures { λ r. ⌜ r ≡ signed32 bits ⌝ }
+{
+    if bits < SIGN_BIT {
+        return bits as i64;
+    }
+    bits as i64 - PATTERNS
+}
+
+// Seconds from 1900, from which Time counts, to 1970.
+const UNIX_EPOCH: i64 = 2_208_988_800;
+
+/// A Time of the RFC reading in Unix seconds.
+pub fn unix_seconds(time: u32) -> i64
+    ensures { λ r. ⌜ r ≡ unixSeconds time ⌝ }
+{
+    time as i64 - UNIX_EPOCH
+}
