@@ -1,0 +1,199 @@
+-- Every public function of every crate has one outcome: no second result meets its contract at the same arguments. `Post` is the
+-- contract as the check reads it from the source, so a contract that says less no longer proves its line here.
+-- Assumes nothing.
+use mathlib.Core.Path.{_≡_, sym, _∙_}
+use denote.Ref.{now}
+use Rattle.octets.proofs.be_u24.Reads as be-u24
+use Rattle.octets.proofs.be_u32.Reads as be-u32
+use Rattle.octets.proofs.be_u64.Reads as be-u64
+use Rattle.octets.proofs.to_be_u24.Reads as to-be-u24
+use Rattle.octets.proofs.to_be_u32.Reads as to-be-u32
+use Rattle.octets.proofs.to_be_u64.Reads as to-be-u64
+use Rattle.rfc3629.proofs.is_utf8.Reads as is-utf8
+use Rattle.flags.proofs.raised.Reads as raised
+use Rattle.flags.proofs.join.Reads as join
+use Rattle.attribute.proofs.Attribute.new.Reads as attribute-new
+use Rattle.attribute.proofs.Attribute.read.Reads as attribute-read
+use Rattle.attribute.proofs.kind.Reads as kind
+use Rattle.header.proofs.length.Reads as length
+use Rattle.header.proofs.Header.is_request.Reads as is-request
+use Rattle.header.proofs.Header.is_proxiable.Reads as is-proxiable
+use Rattle.header.proofs.Header.is_error.Reads as is-error
+use Rattle.header.proofs.Header.is_potentially_retransmitted.Reads as is-potentially-retransmitted
+use Rattle.header.proofs.Header.get_reserved.Reads as get-reserved
+use Rattle.header.proofs.Header.length.Reads as header-length
+use Rattle.header.proofs.Header.parse.Reads as header-parse
+use Rattle.avp.proofs.AVP.is_vendor_specific.Reads as is-vendor-specific
+use Rattle.avp.proofs.AVP.is_mandatory.Reads as is-mandatory
+use Rattle.avp.proofs.AVP.is_protected.Reads as is-protected
+use Rattle.avp.proofs.AVP.get_reserved.Reads as avp-get-reserved
+use Rattle.avp.proofs.AVP.header_size.Reads as header-size
+use Rattle.avp.proofs.AVP.padding.Reads as padding
+use Rattle.avp.proofs.AVP.head.Reads as head
+use Rattle.avp.proofs.tiles.Reads as tiles
+use Rattle.record.proofs.Record.put.Reads as record-put
+use Rattle.record.proofs.Record.get.Reads as record-get
+use Rattle.value.proofs.Value.new.Reads as value-new
+use Rattle.value.proofs.Value.kind.Reads as value-kind
+use Rattle.value.proofs.Value.number.Reads as value-number
+use Rattle.value.proofs.signed_enumerated.Reads as signed-enumerated
+use Rattle.value.proofs.unix_seconds.Reads as unix-seconds
+use Rattle.count.proofs.count_run.Reads as count-run
+use Rattle.diameter.proofs.parse.Reads as parse
+use Rattle.diameter.proofs.parse_avp.Reads as parse-avp
+use Rattle.header.proofs.AnswerOf as header-answers
+use Rattle.avp.proofs.AnswerOf as avp-answers
+use Rattle.record.proofs.RecordAs.{record-as-injective}
+use Rattle.value.proofs.ReadAs.{one-value}
+use Rattle.diameter.proofs.AnswerOf as diameter-answers
+
+-- One outcome, where a function lends nothing that it may change: two results that meet the contract are the same. The arguments
+-- stand with the lifetimes of the call, and with the parameters at exit.
+abbrev Single {i j k l m} : {K : Type i} {A : K → Type j} {R : K → Type k} {S : K → Type l} → ((κs : K) → A κs → R κs → S κs → Type m) → Type (i ⊔ j ⊔ k ⊔ l ⊔ m)
+Single {K = K} {A = A} {R = R} {S = S} Post = (κs : K) (a : A κs) (r r′ : R κs) (s : S κs) → Post κs a r s → Post κs a r′ s → r ≡ r′
+
+-- ---- octets
+
+be-u24-one : Single be-u24.Post
+be-u24-one κs a r r′ s p q = p .is ∙ sym (q .is)
+
+be-u32-one : Single be-u32.Post
+be-u32-one κs a r r′ s p q = p .is ∙ sym (q .is)
+
+be-u64-one : Single be-u64.Post
+be-u64-one κs a r r′ s p q = p .is ∙ sym (q .is)
+
+to-be-u24-one : Single to-be-u24.Post
+to-be-u24-one κs a r r′ s p q = p ∙ sym q
+
+to-be-u32-one : Single to-be-u32.Post
+to-be-u32-one κs a r r′ s p q = p ∙ sym q
+
+to-be-u64-one : Single to-be-u64.Post
+to-be-u64-one κs a r r′ s p q = p ∙ sym q
+
+-- ---- rfc3629
+
+is-utf8-one : Single is-utf8.Post
+is-utf8-one κs a r r′ s p q = p ∙ sym q
+
+-- ---- flags
+
+raised-one : Single raised.Post
+raised-one κs a r r′ s p q = p ∙ sym q
+
+join-one : Single join.Post
+join-one κs a r r′ s p q = p ∙ sym q
+
+-- ---- attribute
+
+attribute-new-one : Single attribute-new.Post
+attribute-new-one κs a r r′ s p q = p ∙ sym q
+
+attribute-read-one : Single attribute-read.Post
+attribute-read-one κs a r r′ s p q = p ∙ sym q
+
+kind-one : Single kind.Post
+kind-one κs a r r′ s p q = p ∙ sym q
+
+-- ---- header
+
+length-one : Single length.Post
+length-one κs a r r′ s p q = p ∙ sym q
+
+is-request-one : Single is-request.Post
+is-request-one κs a r r′ s p q = p ∙ sym q
+
+is-proxiable-one : Single is-proxiable.Post
+is-proxiable-one κs a r r′ s p q = p ∙ sym q
+
+is-error-one : Single is-error.Post
+is-error-one κs a r r′ s p q = p ∙ sym q
+
+is-potentially-retransmitted-one : Single is-potentially-retransmitted.Post
+is-potentially-retransmitted-one κs a r r′ s p q = p ∙ sym q
+
+get-reserved-one : Single get-reserved.Post
+get-reserved-one κs a r r′ s p q = p ∙ sym q
+
+header-length-one : Single header-length.Post
+header-length-one κs a r r′ s p q = p ∙ sym q
+
+header-parse-one : Single header-parse.Post
+header-parse-one κs a r r′ s p q = header-answers.answer-of-injective r r′ (p ∙ sym q)
+
+-- ---- avp
+
+is-vendor-specific-one : Single is-vendor-specific.Post
+is-vendor-specific-one κs a r r′ s p q = p ∙ sym q
+
+is-mandatory-one : Single is-mandatory.Post
+is-mandatory-one κs a r r′ s p q = p ∙ sym q
+
+is-protected-one : Single is-protected.Post
+is-protected-one κs a r r′ s p q = p ∙ sym q
+
+avp-get-reserved-one : Single avp-get-reserved.Post
+avp-get-reserved-one κs a r r′ s p q = p ∙ sym q
+
+header-size-one : Single header-size.Post
+header-size-one κs a r r′ s p q = p ∙ sym q
+
+padding-one : Single padding.Post
+padding-one κs a r r′ s p q = p ∙ sym q
+
+head-one : Single head.Post
+head-one κs a r r′ s p q = avp-answers.answer-of-injective r r′ (p ∙ sym q)
+
+tiles-one : Single tiles.Post
+tiles-one κs a r r′ s p q = p ∙ sym q
+
+-- ---- record
+
+-- the store, the second parameter, is told too
+record-put-one : (κs : _) (a : _) (r r′ : _) (s s′ : _) → record-put.Post κs a r s → record-put.Post κs a r′ s′
+    → (r ≡ r′) × (now (s .1 .0) ≡ now (s′ .1 .0))
+record-put-one κs a r r′ s s′ p q = (p .0 ∙ sym (q .0), p .1 ∙ sym (q .1))
+
+record-get-one : Single record-get.Post
+record-get-one κs a r r′ s p q = record-as-injective r r′ (p ∙ sym q)
+
+-- ---- value
+
+value-new-one : Single value-new.Post
+value-new-one κs a r r′ s p q = one-value _ _ r r′ p q
+
+value-kind-one : Single value-kind.Post
+value-kind-one κs a r r′ s p q = p ∙ sym q
+
+value-number-one : Single value-number.Post
+value-number-one κs a r r′ s p q = p ∙ sym q
+
+signed-enumerated-one : Single signed-enumerated.Post
+signed-enumerated-one κs a r r′ s p q = p ∙ sym q
+
+unix-seconds-one : Single unix-seconds.Post
+unix-seconds-one κs a r r′ s p q = p ∙ sym q
+
+-- ---- count
+
+count-run-one : Single count-run.Post
+count-run-one κs a r r′ s p q = p ∙ sym q
+
+-- ---- diameter: the store, the fourth parameter, is told too
+
+parse-one : (κs : _) (a : _) (r r′ : _) (s s′ : _) → parse.Post κs a r s → parse.Post κs a r′ s′
+    → (r ≡ r′) × (now (s .1 .1 .1 .0) ≡ now (s′ .1 .1 .1 .0))
+parse-one κs a r r′ s s′ p q =
+    let e = diameter-answers.answer-of-injective r r′ (p .0 ∙ sym (q .0)) in
+    let at-exit = p .1 in
+    let at-exit′ = q .1 in
+    (e, cc)
+
+parse-avp-one : (κs : _) (a : _) (r r′ : _) (s s′ : _) → parse-avp.Post κs a r s → parse-avp.Post κs a r′ s′
+    → (r ≡ r′) × (now (s .1 .1 .1 .0) ≡ now (s′ .1 .1 .1 .0))
+parse-avp-one κs a r r′ s s′ p q =
+    let e = diameter-answers.avp-answer-of-injective r r′ (p .0 ∙ sym (q .0)) in
+    let at-exit = p .1 in
+    let at-exit′ = q .1 in
+    (e, cc)

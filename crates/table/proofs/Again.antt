@@ -1,0 +1,162 @@
+-- An AVP's own bytes, made again from its record: the header's fields are written where they were read, the data stand after them,
+-- and the padding is held as a number. The record keeps the rules, and its numbers fit.
+-- Assumes nothing.
+use Prim.Native.Nat.{ℕ, _+_, _-_, _%_, _^_, _≤_, _<_}
+use mathlib.Core.Path.{_≡_, refl, sym, ap, ap₂, _∙_}
+use mathlib.Core.Bool.{Bool, true, false, cond}
+use mathlib.Core.List.{List, [], _∷_, _++_}
+use native.Mathlib.Omega.{arith}
+use lib.ListN.{length, take, drop, length-drop, drop-of-length-le, take-append-drop}
+use lib.Seq.{drop-drop}
+use lib.Dec.{eqb}
+use Rattle.octets.specs.Octets.{be, field, pack, Bytes}
+use Rattle.octets.proofs.Numbers.{be-small}
+use Rattle.rfc6733.specs.Flags.{bit}
+use Rattle.rfc6733.specs.Avp.{flags, avpLength, vendorBit, headSize, vendor, dataSize, padding, payload, pads, Exact}
+use Rattle.rfc6733.specs.Value.{Value, grouped, time}
+use Rattle.rfc6733.specs.Record.{Record, recordOf}
+use Rattle.rfc6733.specs.Writer.{isGroup, headOf, statedData, avpBytes}
+use Rattle.rfc6733.proofs.Complete.{head, sizes, complete-whole}
+use Rattle.rfc6733.proofs.Items.{payload-length}
+use Rattle.table.specs.Parts.{headFields, padBytes}
+use Rattle.table.specs.Rules.{Good}
+use Rattle.table.specs.Tables.{bare, Fits}
+use Rattle.table.proofs.Lengths.{no-padding}
+use Rattle.table.proofs.Packed.{bytes-drop, packed-again}
+use Rattle.table.proofs.Pads.{pads-written, pads-unused}
+
+-- ---- the parts of an AVP
+
+-- its padding: what stands behind its length
+abbrev padsAt : List ℕ → List ℕ
+padsAt a = drop (avpLength a) a
+
+three : (h n : ℕ) (a : List ℕ) → take h a ++ (take n (drop h a) ++ drop (h + n) a) ≡ a
+three h n a =
+    ap (λ (x : List ℕ). take h a ++ (take n (drop h a) ++ x)) (sym (drop-drop n h a))
+    ∙ ap (λ (x : List ℕ). take h a ++ x) (take-append-drop n (drop h a))
+    ∙ take-append-drop h a
+
+header-by : (b : Bool) (a : List ℕ) → cond b 12 8 ≤ length a → Bytes a
+    → pack (field 4 (be 4 a 0) ∷ field 1 (be 1 a 4) ∷ field 3 (be 3 a 5) ∷ cond b (field 4 (cond b (be 4 a 8) 0) ∷ []) []) ≡ take (cond b 12 8) a
+header-by true a h b = packed-again (4 ∷ 1 ∷ 3 ∷ 4 ∷ []) a 0 h b
+header-by false a h b = packed-again (4 ∷ 1 ∷ 3 ∷ []) a 0 h b
+
+module _ (place depth : ℕ) (a : List ℕ) (v : Value) where
+  -- the record as the writer reads it
+  abbrev pub own : Record
+  own = bare (recordOf place depth a v)
+
+  pub own-group : isGroup own ≡ eqb (v .kind) grouped
+  unfolding bare recordOf
+  own-group = refl
+
+  pub own-depth : own .depth ≡ depth
+  unfolding bare recordOf
+  own-depth = refl
+
+  pub own-place : own .place ≡ place + headSize (flags a)
+  unfolding bare recordOf
+  own-place = refl
+
+  own-head : headOf own ≡ headSize (flags a)
+  unfolding bare recordOf headOf
+  own-head = refl
+
+  pub own-data : statedData own ≡ dataSize a
+  unfolding bare recordOf statedData headOf dataSize
+  own-data = refl
+
+  no-vendor : bit vendorBit (flags a) ≡ false → vendor a ≡ 0
+  unfolding vendor
+  no-vendor e = rw e
+
+  vendor-small : Bytes a → vendor a < 256 ^ 4
+  unfolding vendor
+  vendor-small b = by (bit vendorBit (flags a))
+    where
+      by : (t : Bool) → cond t (be 4 a 8) 0 < 256 ^ 4
+      by true = be-small 4 a 8 b
+      by false = omega arith
+
+  module _ (exact : Exact a) (bytes : Bytes a) where
+    pads-length : length (padsAt a) ≡ padding (dataSize a)
+    pads-length = omega (arith, length-drop (avpLength a) a, sizes a, exact .size-is)
+
+    header-again : pack (headFields own (avpLength a)) ≡ take (headSize (flags a)) a
+    unfolding bare recordOf headSize vendor
+    header-again =
+        let w = complete-whole a (exact .whole) in
+        let z = sizes a in
+        header-by (bit vendorBit (flags a)) a (omega arith) bytes
+
+    pads-again : padBytes own ≡ padsAt a
+    unfolding bare recordOf pads
+    pads-again = let z = sizes a in pads-written (padding (dataSize a)) (padsAt a) pads-length (omega arith) (bytes-drop (avpLength a) a bytes)
+
+    pub avp-again : (body : List ℕ) → body ≡ payload a → avpBytes own body ≡ a
+    unfolding avpBytes payload
+    avp-again body e =
+        let w = complete-whole a (exact .whole) in
+        let z = sizes a in
+        let h = own-head in
+        let l : length body ≡ dataSize a = ap length e ∙ payload-length a w in
+        let n : headOf own + length body ≡ avpLength a = omega arith in
+        let at : avpLength a ≡ headSize (flags a) + dataSize a = omega arith in
+        ap₂ (λ (x : ℕ) (y : List ℕ). pack (headFields own x) ++ (y ++ padBytes own)) n e
+        ∙ ap₂ (λ (x y : List ℕ). x ++ (payload a ++ y)) header-again pads-again
+        ∙ ap (λ (x : ℕ). take (headSize (flags a)) a ++ (payload a ++ drop x a)) at
+        ∙ three (headSize (flags a)) (dataSize a) a
+
+    -- ---- its record
+
+    no-pads : padding (dataSize a) ≡ 0 → pads a ≡ 0
+    unfolding pads be
+    no-pads e =
+        let l = pads-length in
+        ap (λ (s : List ℕ). be 3 s 0) (drop-of-length-le a {i = avpLength a} (omega (arith, length-drop (avpLength a) a)))
+
+    unused : pads a % 256 ^ (3 - padding (dataSize a)) ≡ 0
+    unfolding pads
+    unused = let z = sizes a in pads-unused (padding (dataSize a)) (padsAt a) pads-length (omega arith)
+
+    pub own-good : (n : ℕ) → 1 ≤ depth → depth ≤ 64 → v .kind ≤ time → place + length a ≤ n
+        → (eqb (v .kind) grouped ≡ true → dataSize a % 4 ≡ 0) → Good depth n own
+    unfolding bare recordOf statedData headOf dataSize
+    own-good n low high kind within words =
+        let w = complete-whole a (exact .whole) in
+        let z = sizes a in
+        record {
+          some = low;
+          most = high;
+          allows = omega arith;
+          kinds = kind;
+          no-vendor = no-vendor;
+          group = λ e. let p = no-padding (dataSize a) (words e) in record { padding-is = p; pads-are = no-pads p };
+          leaf =
+              λ e.
+              record {
+                long = w .long;
+                within = omega (arith, exact .size-is);
+                padding-is = refl;
+                unused = unused;
+              };
+        }
+
+    pub own-fits : place + length a < 256 ^ 4 → depth ≤ 64 → v .kind ≤ time → Fits own
+    unfolding bare recordOf pads
+    own-fits within high kind =
+        let w = complete-whole a (exact .whole) in
+        let z = sizes a in
+        let h = head (flags a) in
+        record {
+          code-fits = be-small 4 a 0 bytes;
+          flags-fit = be-small 1 a 4 bytes;
+          length-fits = be-small 3 a 5 bytes;
+          vendor-fits = vendor-small bytes;
+          place-fits = omega (arith, exact .size-is);
+          depth-fits = omega arith;
+          kind-fits = omega arith;
+          padding-fits = omega arith;
+          pads-fit = be-small 3 (padsAt a) 0 (bytes-drop (avpLength a) a bytes);
+        }

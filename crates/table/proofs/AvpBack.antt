@@ -1,0 +1,119 @@
+-- Reading back what is written for a record that keeps the rules: it is a complete AVP, no byte more, with the record's own code,
+-- flags, vendor, data and padding, since each field is read where it was packed.
+-- Assumes nothing.
+use Prim.Native.Nat.{ℕ, _+_, _-_, _%_, _^_, _<_}
+use mathlib.Core.Path.{_≡_, refl, sym, ap, ap₂, _∙_}
+use mathlib.Core.Bool.{Bool, true, false, cond}
+use mathlib.Core.List.{List, [], _∷_, _++_}
+use native.Mathlib.Nat.{zero-mod}
+use native.Mathlib.Omega.{arith}
+use lib.ListN.{length, take, drop}
+use lib.Seq.{take-at, drop-at, drop-drop}
+use Rattle.octets.specs.Octets.{be, Field, field, pack}
+use Rattle.rfc6733.specs.Flags.{bit}
+use Rattle.rfc6733.specs.Avp.{code, flags, avpLength, vendorBit, headSize, vendor, dataSize, padding, payload, pads, Exact}
+use Rattle.rfc6733.specs.Record.{Record}
+use Rattle.rfc6733.specs.Writer.{isGroup, headOf, avpBytes}
+use Rattle.rfc6733.proofs.Complete.{sizes, whole-complete}
+use Rattle.table.specs.Parts.{headFields, padBytes}
+use Rattle.table.specs.Rules.{Good}
+use Rattle.table.specs.Tables.{Fits}
+use Rattle.table.specs.Tops.{topOf, topRecord}
+use Rattle.table.proofs.Laid.{field-back}
+use Rattle.table.proofs.Lengths.{head-low, head-length, avp-length, Padded}
+use Rattle.table.proofs.Pads.{pads-read}
+
+-- bytes of three parts, taken apart
+apart : (h n : ℕ) (a b c : List ℕ) → length a ≡ h → length b ≡ n
+    → (take n (drop h (a ++ (b ++ c))) ≡ b) × (drop (h + n) (a ++ (b ++ c)) ≡ c)
+apart h n a b c ea eb =
+    let front : drop h (a ++ (b ++ c)) ≡ b ++ c = drop-at a (b ++ c) h ea in (
+      ap (take n) front ∙ take-at b c n eb,
+      sym (drop-drop n h (a ++ (b ++ c))) ∙ ap (drop n) front ∙ drop-at b c n eb,
+    )
+
+-- a group's padding bytes are 0, and so are the unused ones of another
+unused-pads : (allowed n : ℕ) (r : Record) → Good allowed n r → r .pads % 256 ^ (3 - r .padding) ≡ 0
+unused-pads allowed n r g = by (isGroup r) refl
+  where
+    by : (b : Bool) → isGroup r ≡ b → r .pads % 256 ^ (3 - r .padding) ≡ 0
+    by true e = ap (λ (x : ℕ). x % 256 ^ (3 - r .padding)) (g .group e .pads-are) ∙ zero-mod _
+    by false e = g .leaf e .unused
+
+module _ (allowed most : ℕ) (r : Record) (inside : List ℕ) (good : Good allowed most r) (fits : Fits r) (padded : Padded r (length inside))
+    (short : headOf r + length inside < 256 ^ 3) where
+  abbrev own : List ℕ
+  own = avpBytes r inside
+
+  abbrev n : ℕ
+  n = headOf r + length inside
+
+  abbrev fields : List Field
+  fields = headFields r n
+
+  abbrev more : List ℕ
+  more = inside ++ padBytes r
+
+  code-back : code own ≡ r .code
+  unfolding avpBytes
+  code-back = field-back fields [] 4 (r .code) (drop 1 fields) more refl (fits .code-fits)
+
+  flags-back : flags own ≡ r .flags
+  unfolding avpBytes
+  flags-back = field-back fields (take 1 fields) 1 (r .flags) (drop 2 fields) more refl (fits .flags-fit)
+
+  length-back : avpLength own ≡ n
+  unfolding avpBytes
+  length-back = field-back fields (take 2 fields) 3 n (drop 3 fields) more refl short
+
+  vendor-back : vendor own ≡ r .vendor
+  unfolding avpBytes vendor
+  vendor-back = ap (λ (x : ℕ). cond (bit vendorBit x) (be 4 own 8) 0) flags-back ∙ by (bit vendorBit (r .flags)) refl
+    where
+      by : (b : Bool) → bit vendorBit (r .flags) ≡ b
+          → cond b (be 4 (pack (field 4 (r .code) ∷ field 1 (r .flags) ∷ field 3 n ∷ cond b (field 4 (r .vendor) ∷ []) []) ++ more) 8) 0 ≡ r .vendor
+      by true e =
+          let three = field 4 (r .code) ∷ field 1 (r .flags) ∷ field 3 n ∷ [] in
+          field-back (three ++ (field 4 (r .vendor) ∷ [])) three 4 (r .vendor) [] more refl (fits .vendor-fits)
+      by false e = sym (good .no-vendor e)
+
+  head-back : headSize (flags own) ≡ headOf r
+  unfolding headOf
+  head-back = ap headSize flags-back
+
+  data-back : dataSize own ≡ length inside
+  data-back = let h = head-back in let l = length-back in let z = sizes own in omega arith
+
+  parts : (take (length inside) (drop (headOf r) own) ≡ inside) × (drop n own ≡ padBytes r)
+  unfolding avpBytes
+  parts = apart (headOf r) (length inside) (pack fields) inside (padBytes r) (head-length r n) refl
+
+  payload-back : payload own ≡ inside
+  unfolding payload
+  payload-back = ap₂ (λ (x y : ℕ). take x (drop y own)) data-back head-back ∙ parts .0
+
+  padding-back : padding (dataSize own) ≡ r .padding
+  padding-back = ap padding data-back ∙ sym (padded .is)
+
+  pads-back : pads own ≡ r .pads
+  unfolding pads
+  pads-back =
+      ap (λ (s : List ℕ). be 3 s 0) (ap (λ (x : ℕ). drop x own) length-back ∙ parts .1)
+      ∙ pads-read (r .padding) (r .pads) (padded .few) (fits .pads-fit) (unused-pads allowed most r good)
+
+  pub exact-back : Exact own
+  exact-back =
+      let low = head-low r in
+      let e = head-back in
+      let l = length-back in
+      let p = padding-back in
+      let z = sizes own in
+      let all = avp-length r inside (padded .few) in
+      record {
+        whole = whole-complete own (record { eight = omega arith; long = omega arith; room = omega arith });
+        size-is = omega arith;
+      }
+
+  pub top-back : topOf own ≡ topRecord r inside
+  unfolding topOf topRecord
+  top-back = rw (code-back, flags-back, vendor-back, payload-back, padding-back, pads-back)

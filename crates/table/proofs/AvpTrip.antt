@@ -1,0 +1,100 @@
+-- The round trip of one AVP before what follows it: its record keeps the rules and fits, and its bytes are made again from the
+-- record and from its data, which are the members' bytes of a group that tiles and stand at the record's place otherwise.
+-- Assumes nothing.
+use Prim.Native.Nat.{ℕ, _+_, _%_, _^_, _≤_, _<_}
+use mathlib.Core.Path.{_≡_, refl, sym, ap, ap₂, _∙_}
+use mathlib.Core.Bool.{Bool, true, false, cond}
+use mathlib.Core.List.{List, _++_}
+use native.Mathlib.Omega.{arith}
+use lib.ListN.{length, take, drop}
+use lib.Dec.{eqb}
+use Rattle.octets.specs.Octets.{Bytes}
+use Rattle.octets.proofs.Runs.{false-true}
+use Rattle.rfc6733.specs.Avp.{flags, headSize, dataSize, payload, Exact}
+use Rattle.rfc6733.specs.Value.{Value, value, grouped, time}
+use Rattle.rfc6733.specs.Forest as table
+use Rattle.rfc6733.specs.Forest.{Forest, none, flat}
+use Rattle.rfc6733.specs.Writer.{statedData, forestBytes}
+use Rattle.rfc6733.proofs.Complete.{head, sizes, complete-whole}
+use Rattle.rfc6733.proofs.Items.{payload-length}
+use Rattle.table.specs.Forests.{size}
+use Rattle.table.specs.Parts.{bodyOf}
+use Rattle.table.specs.Tables.{AllFit}
+use Rattle.table.specs.Trip.{Ungrouped}
+use Rattle.table.proofs.Rules.{good-keeps}
+use Rattle.table.proofs.Lengths.{long}
+use Rattle.table.proofs.Laid.{both-fit}
+use Rattle.table.proofs.Again.{own, own-group, own-depth, own-place, own-data, avp-again, own-good, own-fits}
+use Rattle.table.proofs.Sound.{Sound, sound-kept}
+use Rattle.table.proofs.Places.{Holds, holds-part, holds-fits, holds-data}
+
+-- the forest f, whose trees stand at a depth, keeps the rules, fits a table, and writes s
+pub record Trip (pool : List ℕ) (depth : ℕ) (s : List ℕ) (f : Forest) : Type 0 where
+  pub sound-is : Sound (length pool) depth f
+  pub fits : AllFit (flat f)
+  pub is : forestBytes pool f ≡ s
+
+pub payload-held : (pool : List ℕ) (place : ℕ) (a : List ℕ) → Exact a → Holds pool place a → Holds pool (place + headSize (flags a)) (payload a)
+unfolding payload
+payload-held pool place a exact holds =
+    let w = complete-whole a (exact .whole) in
+    let z = sizes a in
+    holds-part pool place a (headSize (flags a)) (dataSize a) (omega (arith, exact .size-is)) holds
+
+module _ (pool : List ℕ) (place depth : ℕ) (a : List ℕ) (exact : Exact a) (bytes : Bytes a) (holds : Holds pool place a)
+    (within : place + length a < 256 ^ 4) (low : 1 ≤ depth) (high : depth ≤ 64) where
+  some : 0 < length a
+  some = omega (arith, exact .size-is, sizes a, complete-whole a (exact .whole), head (flags a))
+
+  -- the data that its record points at
+  pointed : (v : Value) → take (statedData (own place depth a v)) (drop (own place depth a v .place) pool) ≡ payload a
+  pointed v =
+      ap₂ (λ (n p : ℕ). take n (drop p pool)) (own-data place depth a v) (own-place place depth a v)
+      ∙ holds-data pool (place + headSize (flags a)) (dataSize a) (payload a) (payload-length a (complete-whole a (exact .whole)))
+      (payload-held pool place a exact holds)
+
+  module _ (v : Value) (members rest : Forest) (x : List ℕ) (kind : v .kind ≤ time)
+      (words : eqb (v .kind) grouped ≡ true → dataSize a % 4 ≡ 0)
+      (inside : eqb (v .kind) grouped ≡ true → forestBytes pool members ≡ payload a)
+      (no-members : eqb (v .kind) grouped ≡ false → members ≡ none) where
+    body-again : bodyOf pool (own place depth a v) (forestBytes pool members) ≡ payload a
+    body-again = rw (own-group place depth a v) (by (eqb (v .kind) grouped) inside)
+      where
+        by : (b : Bool) → (b ≡ true → forestBytes pool members ≡ payload a)
+            → cond b (forestBytes pool members) (take (statedData (own place depth a v)) (drop (own place depth a v .place) pool)) ≡ payload a
+        by true h = h refl
+        by false h = pointed v
+
+    trip-one : Sound (length pool) (depth + 1) members → AllFit (flat members) → Trip pool depth x rest
+        → Trip pool depth (a ++ x) (table.node (own place depth a v) members rest)
+    trip-one s f r =
+        let g = own-good place depth a v exact bytes (length pool) low high kind (holds-fits pool place a some holds) words in
+        record {
+          sound-is =
+              Sound.more (good-keeps depth (length pool) (own place depth a v) g) (own-depth place depth a v)
+              (λ e. no-members (sym (own-group place depth a v) ∙ e)) s (r .sound-is);
+          fits = (
+            own-fits place depth a v exact bytes within high kind,
+            both-fit (flat members) (flat rest) f (r .fits),
+          );
+          is = ap₂ _++_ (avp-again place depth a v exact bytes _ body-again) (r .is);
+        }
+
+  pub trip-leaf : (v : Value) (rest : Forest) (x : List ℕ) → Ungrouped v → Trip pool depth x rest
+      → Trip pool depth (a ++ x) (table.node (own place depth a v) none rest)
+  trip-leaf v rest x u r =
+      trip-one v none rest x (u .low) (λ e. absurd (false-true (sym (u .other) ∙ e))) (λ e. absurd (false-true (sym (u .other) ∙ e)))
+      (λ e. refl) Sound.no-more tt r
+
+  -- its members are whole words
+  member-words : (members : Forest) → Trip pool (depth + 1) (payload a) members → dataSize a % 4 ≡ 0
+  member-words members m =
+      let l = long pool members (sound-kept (length pool) (depth + 1) members (m .sound-is)) in
+      let e : dataSize a ≡ size members = sym (payload-length a (complete-whole a (exact .whole))) ∙ sym (ap length (m .is)) ∙ l .is in
+      rw e (l .words)
+
+  pub trip-group : (e : ℕ) (members rest : Forest) (x : List ℕ) → Trip pool (depth + 1) (payload a) members → Trip pool depth x rest
+      → Trip pool depth (a ++ x) (table.node (own place depth a (value grouped e 0)) members rest)
+  trip-group e members rest x m r =
+      trip-one (value grouped e 0) members rest x (omega arith) (λ y. member-words members m) (λ y. m .is)
+      (λ y. absurd (false-true (sym y))) (m .sound-is) (m .fits) r

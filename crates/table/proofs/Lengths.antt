@@ -1,0 +1,121 @@
+-- How long a forest's bytes are. An AVP is its header, its data and its padding, so the length is the fold of these, wherever the
+-- data that places point at are there. With its padding an AVP is whole words, and so is a forest.
+-- Assumes nothing.
+use Prim.Native.Nat.{ℕ, _+_, _%_, _≤_}
+use mathlib.Core.Path.{_≡_, refl, sym, ap, _∙_}
+use mathlib.Core.Bool.{Bool, true, false, cond}
+use mathlib.Core.List.{List, [], _∷_, _++_}
+use native.Mathlib.Omega.{arith}
+use lib.ListN.{length, drop, length-append, length-drop}
+use lib.Seq.{length-take-le}
+use Rattle.octets.specs.Octets.{field, pack, widths, octets}
+use Rattle.octets.proofs.Numbers.{length-octets, length-pack}
+use Rattle.rfc6733.specs.Flags.{bit}
+use Rattle.rfc6733.specs.Avp.{vendorBit, headSize, padding}
+use Rattle.rfc6733.specs.Record.{Record}
+use Rattle.rfc6733.specs.Forest.{Forest, none, node, forest}
+use Rattle.rfc6733.specs.Writer.{Fields, tableOf, isGroup, headOf, statedData, avpBytes, forestBytes, messageBytes, tableBytes}
+use Rattle.rfc6733.proofs.Complete.{head}
+use Rattle.table.specs.Forests.{size}
+use Rattle.table.specs.Parts.{headerFields, headFields, padBytes, bodyOf}
+use Rattle.table.specs.Rules.{Good, Valid, Kept}
+use Rattle.table.proofs.Kept.{valid-kept}
+
+-- ---- an AVP
+
+pub head-low : (r : Record) → 8 ≤ headOf r
+unfolding headOf
+head-low r = head (r .flags) .low
+
+pub head-length : (r : Record) (n : ℕ) → length (pack (headFields r n)) ≡ headOf r
+unfolding headOf headSize
+head-length r n = length-pack (headFields r n) ∙ by (bit vendorBit (r .flags))
+  where
+    by : (b : Bool) → 4 + (1 + (3 + widths (cond b (field 4 (r .vendor) ∷ []) []))) ≡ cond b 12 8
+    by true = refl
+    by false = refl
+
+pub pad-length : (r : Record) → r .padding ≤ 3 → length (padBytes r) ≡ r .padding
+pad-length r h = let l = length-octets 3 (r .pads) in length-take-le (r .padding) (octets 3 (r .pads)) (omega arith)
+
+pub avp-length : (r : Record) (body : List ℕ) → r .padding ≤ 3 → length (avpBytes r body) ≡ headOf r + length body + r .padding
+unfolding avpBytes
+avp-length r body h =
+    let front = pack (headFields r (headOf r + length body)) in
+    omega (arith, length-append front (body ++ padBytes r), length-append body (padBytes r), head-length r (headOf r + length body), pad-length r h)
+
+-- ---- its data
+
+-- so many bytes of data, whose padding is the record's
+pub record Padded (r : Record) (n : ℕ) : Type 0 where
+  pub few : r .padding ≤ 3
+  pub is : r .padding ≡ padding n
+  pub words : (n + r .padding) % 4 ≡ 0
+
+padded : (r : Record) (n : ℕ) → r .padding ≡ padding n → Padded r n
+unfolding padding
+padded r n e = record { few = omega arith; is = e; words = omega arith }
+
+-- whole words have none
+pub no-padding : (n : ℕ) → n % 4 ≡ 0 → padding n ≡ 0
+unfolding padding
+no-padding n e = omega arith
+
+pub record Body (pool : List ℕ) (r : Record) (members : List ℕ) (n : ℕ) : Type 0 where
+  pub size-is : length (bodyOf pool r members) ≡ cond (isGroup r) n (statedData r)
+  pub padded-is : Padded r (length (bodyOf pool r members))
+
+-- the data of a record that keeps the rules, with members of n bytes in whole words
+pub body : (pool : List ℕ) (allowed : ℕ) (r : Record) (members : List ℕ) (n : ℕ) → Good allowed (length pool) r → length members ≡ n → n % 4 ≡ 0
+    → Body pool r members n
+body pool allowed r members n g e w = by (isGroup r) refl
+  where
+    by : (b : Bool) → isGroup r ≡ b → Body pool r members n
+    by true x =
+        let u = g .group x in
+        let z = no-padding n w in
+        record { size-is = rw x e; padded-is = rw x (padded r (length members) (u .padding-is ∙ sym z ∙ ap padding (sym e))) }
+    by false x =
+        let l = g .leaf x in
+        let there = length-drop (r .place) pool in
+        let z = length-take-le (statedData r) (drop (r .place) pool) (omega arith) in
+        record { size-is = rw x z; padded-is = rw x (padded r _ (l .padding-is ∙ ap padding (sym z))) }
+
+-- ---- a forest
+
+pub record Long (pool : List ℕ) (f : Forest) : Type 0 where
+  pub is : length (forestBytes pool f) ≡ size f
+  pub words : size f % 4 ≡ 0
+
+add-words : (h k p t : ℕ) → h % 4 ≡ 0 → (k + p) % 4 ≡ 0 → t % 4 ≡ 0 → (h + k + p + t) % 4 ≡ 0
+add-words h k p t a b c = omega arith
+
+pub long : (pool : List ℕ) (f : Forest) → Kept (length pool) f → Long pool f
+unfolding headOf
+long pool none k = record { is = refl; words = refl }
+long pool (node r i t) k =
+    let inside = long pool i (k .1) in
+    let after = long pool t (k .2) in
+    let b = body pool (r .depth) r (forestBytes pool i) (size i) (k .0) (inside .is) (inside .words) in
+    let here = bodyOf pool r (forestBytes pool i) in
+    record {
+      is = omega (arith, length-append (avpBytes r here) (forestBytes pool t), avp-length r here (b .padded-is .few), b .size-is, after .is);
+      words =
+          add-words (headOf r) (cond (isGroup r) (size i) (statedData r)) (r .padding) (size t) (head (r .flags) .words)
+          (rw (b .size-is) at (b .padded-is .words)) (after .words);
+    }
+
+-- ---- a message
+
+pub message-length : (f : Fields) (inside : List ℕ) → length (messageBytes f inside) ≡ 20 + length inside
+unfolding messageBytes
+message-length f inside =
+    let front = headerFields f (20 + length inside) in
+    length-append (pack front) inside ∙ ap (λ (x : ℕ). x + length inside) (length-pack front)
+
+pub total-size : (f : Fields) (table pool : List ℕ) → Valid 1 (length pool) (tableOf table)
+    → length (tableBytes f table pool) ≡ 20 + size (forest (tableOf table))
+unfolding tableBytes
+total-size f table pool v =
+    message-length f (forestBytes pool (forest (tableOf table)))
+    ∙ ap (λ (x : ℕ). 20 + x) (long pool (forest (tableOf table)) (valid-kept 1 (length pool) (tableOf table) v) .is)
