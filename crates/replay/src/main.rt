@@ -1,0 +1,177 @@
+// Answers framed cases from standard input on standard output: the bridge to the oracle and, with the frames kept beside it, a
+// test of the decoders. oracle/README.md has the frame and the answer. It stops at the end of the input or at a frame that it can't hold.
+use attribute::Reading;
+use diameter::Decoded;
+use diameter::DecodedAvp;
+use header::Header;
+use header::Parsed;
+use record::Record;
+
+const FRAME_SIZE: usize = 9;
+
+const BUFFER_SIZE: usize = 65536;
+
+// The store has some bytes past its last record, since those are cleared too.
+const SPARE: usize = 5;
+
+// What the store holds as it is lent.
+const LENT: u8 = 0xA5;
+
+fn write_u8(v: u8) {
+    io::write_all(1, &[v]);
+}
+
+fn write_u16(v: usize) {
+    io::write_all(1, &[(v / 256 % 256) as u8, (v % 256) as u8]);
+}
+
+fn write_u24(v: u32) {
+    io::write_all(1, &octets::to_be_u24(v));
+}
+
+fn write_u32(v: u32) {
+    io::write_all(1, &octets::to_be_u32(v));
+}
+
+fn write_count(v: usize) {
+    write_u32((v % 0x1_0000_0000) as u32);
+}
+
+fn write_refusal(number: u8, amount: usize) {
+    write_u8(number);
+    write_count(amount);
+}
+
+fn write_header(h: Header) {
+    write_u8(h.version);
+    write_u24(h.length);
+    write_u8(h.flags);
+    write_u24(h.code);
+    write_u32(h.app_id);
+    write_u32(h.hop_id);
+    write_u32(h.end_id);
+}
+
+fn write_counts(flags: u8, records: usize, tried: usize, length: usize) {
+    write_u8(flags);
+    write_u16(records);
+    write_count(tried);
+    write_count(length);
+}
+
+fn message(reading: Reading, limit: usize, input: &[u8], store: &mut [u8]) {
+    match diameter::parse(reading, limit, input, store) {
+        Decoded::Accepted(m) => {
+            write_refusal(0, 0);
+            write_header(m.header);
+            write_counts(m.flags, m.records, m.tried, m.length);
+        }
+        Decoded::Incomplete(n) => write_refusal(1, n),
+        Decoded::NotVersion => write_refusal(2, 0),
+        Decoded::BadLength => write_refusal(3, 0),
+        Decoded::NotTiled => write_refusal(4, 0),
+        Decoded::TooDeep => write_refusal(5, 0),
+        Decoded::NoRecords(n) => write_refusal(6, n),
+        Decoded::BadDepth => write_refusal(7, 0),
+    }
+}
+
+fn header_alone(input: &[u8]) {
+    match Header::parse(input) {
+        Parsed::Accepted { header, flags } => {
+            write_refusal(0, 0);
+            write_header(header);
+            write_counts(flags, 0, 0, Header::SIZE);
+        }
+        Parsed::Incomplete(n) => write_refusal(1, n),
+        Parsed::NotVersion => write_refusal(2, 0),
+        Parsed::BadLength => write_refusal(3, 0),
+    }
+}
+
+fn one_avp(reading: Reading, limit: usize, input: &[u8], store: &mut [u8]) {
+    match diameter::parse_avp(reading, limit, input, store) {
+        DecodedAvp::Accepted(one) => {
+            write_refusal(0, 0);
+            write_counts(one.flags, one.records, one.tried, one.length);
+        }
+        DecodedAvp::Incomplete(n) => write_refusal(1, n),
+        DecodedAvp::BadLength => write_refusal(3, 0),
+        DecodedAvp::TooDeep => write_refusal(5, 0),
+        DecodedAvp::NoRecords(n) => write_refusal(6, n),
+        DecodedAvp::BadDepth => write_refusal(7, 0),
+    }
+}
+
+fn reading_of(b: u8) -> Reading {
+    if b == 0 { Reading::Sawp } else { Reading::Rfc }
+}
+
+fn lend(store: &mut [u8]) {
+    let mut i: usize = 0;
+    while i < store.len() {
+        store[i] = LENT;
+        i += 1;
+    }
+}
+
+fn answer(frame: [u8; FRAME_SIZE], input: &[u8], store: &mut [u8]) {
+    lend(store);
+    let function = frame[0];
+    let reading = reading_of(frame[1]);
+    let limit = frame[2] as usize;
+    match function {
+        0 => message(reading, limit, input, store),
+        1 => header_alone(input),
+        _ => one_avp(reading, limit, input, store),
+    }
+}
+
+// How many bytes of input a frame has, and of store.
+fn input_size(frame: [u8; FRAME_SIZE]) -> usize {
+    octets::be_u32(frame[5], frame[6], frame[7], frame[8]) as usize
+}
+
+fn store_size(frame: [u8; FRAME_SIZE]) -> usize {
+    octets::be_u24(0, frame[3], frame[4]) as usize * Record::SIZE + SPARE
+}
+
+// Reads the input of a frame, answers it and writes the store; false where the input is cut off.
+fn exchange(frame: [u8; FRAME_SIZE], input: &mut [u8], store: &mut [u8]) -> bool {
+    if io::read_full(0, input) < input.len() {
+        return false;
+    }
+    answer(frame, input, store);
+    io::write_all(1, store)
+}
+
+// Reads a frame and answers it; false where there is none.
+fn next() -> bool {
+    let mut frame = [0u8; FRAME_SIZE];
+    if io::read_full(0, &mut frame) < FRAME_SIZE {
+        return false;
+    }
+    let mut input = io::large_buffer();
+    let mut store = io::large_buffer();
+    let size = input_size(frame);
+    let room = store_size(frame);
+    if BUFFER_SIZE < size {
+        return false;
+    }
+    if BUFFER_SIZE < room {
+        return false;
+    }
+    exchange(frame, &mut input[..size], &mut store[..room])
+}
+
+fn main() {
+    let mut more = true;
+    let mut left: u64 = 0xFFFF_FFFF_FFFF_FFFF;
+    while more {
+        if left == 0 {
+            return;
+        }
+        left -= 1;
+        more = next();
+    }
+}

@@ -1,0 +1,232 @@
+"""A model of document 01, written from its text and from RFC 6733 and RFC 3629, not from our code.
+
+It answers a case as document 01 says: message, header alone or one AVP alone, in either reading. It is slow and plain on
+purpose. The frames that crates/replay reads and the answers that it must write are made with it:
+
+    python3 oracle/model.py frames < oracle/cases.txt > crates/replay/stdin
+    python3 oracle/model.py answers < oracle/cases.txt > crates/replay/stdout
+
+A frame: function (0 message, 1 header alone, 2 one AVP), reading (0 sawp, 1 RFC) and depth limit in a byte each, room in
+records in 2 bytes, length in 4, and the bytes. An answer: the number in a byte and the amount in 4; where the number is 0, the
+header's 20 bytes (not for one AVP), the flags in a byte, the number of records in 2, headers tried in 4, the length in 4; and always the
+whole store afterwards, which has 5 bytes more than its records take and was lent full of the byte A5.
+"""
+import sys
+
+INCOMPLETE, NOT_VERSION, BAD_LENGTH, NOT_TILED, TOO_DEEP, NO_RECORDS, BAD_DEPTH = 1, 2, 3, 4, 5, 6, 7
+DATA_VALUE, DATA_LENGTH, RESERVED, PADDING = 1, 2, 4, 8
+
+SAWP_KINDS = {
+    1: [44, 33],
+    4: [85, 485, 259, 258, 291, 276, 298, 267, 299, 272, 278, 262, 268, 27, 270, 265, 266],
+    5: [287],
+    8: [297, 279, 284, 260],
+    9: [483, 480, 274, 277, 285, 273, 261, 271, 295],
+    10: [50, 25, 281, 269, 263, 1],
+    11: [293, 235, 294, 264, 296, 280, 282],
+    12: [292],
+    13: [257],
+    14: [55],
+}
+KIND = {code: kind for kind, codes in SAWP_KINDS.items() for code in codes}
+
+
+class Refused(Exception):
+    def __init__(self, number, amount=0):
+        super().__init__(number, amount)
+        self.number, self.amount = number, amount
+
+
+def be(data):
+    return int.from_bytes(data, "big")
+
+
+def kind_of(reading, code, vendor):
+    if reading == "sawp":
+        return KIND.get(code, 0)
+    if vendor != 0:
+        return 0
+    return {25: 1, 235: 0, 283: 11}.get(code, KIND.get(code, 0))
+
+
+def well_formed(data):
+    try:
+        data.decode("utf-8", "strict")
+        return True
+    except UnicodeDecodeError:
+        return False
+
+
+def value(reading, kind, data):
+    """Kind, error flags and value field of data that are no group."""
+    if kind in (4, 9, 14, 5):
+        width = 8 if kind == 5 else 4
+        if len(data) < width:
+            return 0, DATA_LENGTH, 0
+        return kind, DATA_LENGTH if len(data) > width else 0, be(data[:width])
+    if kind in (10, 11, 12):
+        return (kind, 0, 0) if well_formed(data) else (0, DATA_VALUE, 0)
+    if kind == 13 and reading == "sawp":
+        if len(data) == 4:
+            return 13, 0, be(data)
+        return (13, 0, 0) if len(data) == 16 else (0, DATA_LENGTH, 0)
+    if kind == 13:
+        if len(data) < 2:
+            return 0, DATA_LENGTH, 0
+        family = be(data[:2])
+        if family == 1:
+            return (13, 0, be(data[2:])) if len(data) == 6 else (0, DATA_LENGTH, 0)
+        if family == 2:
+            return (13, 0, 0) if len(data) == 18 else (0, DATA_LENGTH, 0)
+        return 0, 0, 0
+    return kind, 0, 0
+
+
+def avp_front(data):
+    """The AVP at the front: (code, flags, length, vendor, header size, padded size), or the refusal."""
+    n = len(data)
+    if n < 4:
+        raise Refused(INCOMPLETE, 4 - n)
+    if n == 4:
+        raise Refused(INCOMPLETE, 1)
+    if n < 8:
+        raise Refused(INCOMPLETE, 8 - n)
+    code, flags, length = be(data[:4]), data[4], be(data[5:8])
+    if length < 8:
+        raise Refused(BAD_LENGTH)
+    if length > n:
+        raise Refused(INCOMPLETE, length - n)
+    head = 12 if flags & 0x80 else 8
+    if length < head:
+        raise Refused(BAD_LENGTH)
+    size = length + (4 - (length - head) % 4) % 4
+    if size > n:
+        raise Refused(INCOMPLETE, size - n)
+    vendor = be(data[8:12]) if flags & 0x80 else 0
+    return code, flags, length, vendor, head, size
+
+
+def run(reading, data, place, depth):
+    """Of a run: does it tile, its records, its flags, headers tried, the deepest level."""
+    at, records, flags, tried, deepest = 0, [], 0, 0, 0
+    while at < len(data):
+        tried, deepest = tried + 1, max(deepest, depth)
+        try:
+            code, bits, length, vendor, head, size = avp_front(data[at:])
+        except Refused:
+            return False, records, flags, tried, deepest
+        payload = data[at + head : at + length]
+        pads = data[at + length : at + size]
+        kind = kind_of(reading, code, vendor)
+        members = []
+        if kind == 8:
+            tiles, members, errors, more, deep = run(reading, payload, place + at + head, depth + 1)
+            tried, deepest, number = tried + more, max(deepest, deep), 0
+            if not tiles:
+                kind, errors, members = 0, DATA_VALUE, []
+        else:
+            kind, errors, number = value(reading, kind, payload)
+        errors |= (RESERVED if bits & 0x1F else 0) | (PADDING if any(pads) else 0)
+        own = (
+            code.to_bytes(4, "big") + bytes([bits]) + length.to_bytes(3, "big") + vendor.to_bytes(4, "big")
+            + (place + at + head).to_bytes(4, "big") + bytes([depth, kind, errors, len(pads)])
+            + pads.ljust(3, b"\0") + b"\0" + number.to_bytes(8, "big")
+        )
+        records += [own] + members
+        flags |= errors
+        at += size
+    return True, records, flags, tried, deepest
+
+
+def header(data):
+    if len(data) < 1:
+        raise Refused(INCOMPLETE, 1)
+    if data[0] != 1:
+        raise Refused(NOT_VERSION)
+    if len(data) < 4:
+        raise Refused(INCOMPLETE, 4 - len(data))
+    length = be(data[1:4])
+    if length < 4:
+        raise Refused(BAD_LENGTH)
+    if length > len(data):
+        raise Refused(INCOMPLETE, length - len(data))
+    if length < 20:
+        raise Refused(BAD_LENGTH)
+    return length, RESERVED if data[4] & 0x0F else 0
+
+
+def limits(limit):
+    if not 1 <= limit <= 64:
+        raise Refused(BAD_DEPTH)
+
+
+def fits(limit, room, deepest, records):
+    if deepest > limit:
+        raise Refused(TOO_DEEP)
+    if len(records) > room:
+        raise Refused(NO_RECORDS, len(records))
+
+
+def message(reading, limit, room, data):
+    """Flags, records, tried, length."""
+    limits(limit)
+    length, own = header(data)
+    tiles, records, flags, tried, deepest = run(reading, data[20:length], 20, 1)
+    if not tiles:
+        raise Refused(NOT_TILED)
+    fits(limit, room, deepest, records)
+    return own | flags, records, tried, length
+
+
+def header_alone(data):
+    return header(data)[1], [], 0, 20
+
+
+def avp_alone(reading, limit, room, data):
+    limits(limit)
+    size = avp_front(data)[5]
+    _, records, flags, tried, deepest = run(reading, data[:size], 0, 1)
+    fits(limit, room, deepest, records)
+    return flags, records, tried, size
+
+
+LENT, SPARE = 0xA5, 5
+FUNCTIONS, READINGS = ("message", "header", "avp"), ("sawp", "rfc")
+
+
+def frame(function, reading, limit, room, data):
+    head = bytes([FUNCTIONS.index(function), READINGS.index(reading), limit])
+    return head + room.to_bytes(2, "big") + len(data).to_bytes(4, "big") + data
+
+
+def answer(function, reading, limit, room, data):
+    size = room * 32 + SPARE
+    try:
+        if function == "header":
+            flags, records, tried, length = header_alone(data)
+        elif function == "avp":
+            flags, records, tried, length = avp_alone(reading, limit, room, data)
+        else:
+            flags, records, tried, length = message(reading, limit, room, data)
+    except Refused as r:
+        return bytes([r.number]) + r.amount.to_bytes(4, "big") + bytes([LENT]) * size
+    out = bytes(5) + (b"" if function == "avp" else data[:20]) + bytes([flags])
+    out += len(records).to_bytes(2, "big") + tried.to_bytes(4, "big") + length.to_bytes(4, "big")
+    if function == "header":
+        return out + bytes([LENT]) * size
+    return out + b"".join(records).ljust(size, b"\0")
+
+
+def main():
+    make = {"frames": frame, "answers": answer}[sys.argv[1]]
+    for line in sys.stdin:
+        words = line.split()
+        if not words or words[0].startswith("#"):
+            continue
+        function, reading, limit, room, text = words
+        data = b"" if text == "-" else bytes.fromhex(text)
+        sys.stdout.buffer.write(make(function, reading, int(limit), int(room), data))
+
+
+if __name__ == "__main__":
+    main()
