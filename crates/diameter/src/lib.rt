@@ -107,10 +107,10 @@ fn parse_body(
     } = count::count_run(reading, body, limit)
     else {
         // NotTiled comes first
-        if avp::tiles(body) {
-            return Decoded::TooDeep;
+        if !avp::tiles(body) {
+            return Decoded::NotTiled;
         }
-        return Decoded::NotTiled;
+        return Decoded::TooDeep;
     };
     if !tiles {
         return Decoded::NotTiled;

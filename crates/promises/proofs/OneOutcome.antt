@@ -41,11 +41,13 @@ use Rattle.value.proofs.unix_seconds.Reads as unix-seconds
 use Rattle.count.proofs.count_run.Reads as count-run
 use Rattle.diameter.proofs.parse.Reads as parse
 use Rattle.diameter.proofs.parse_avp.Reads as parse-avp
+use Rattle.writer.proofs.write.Reads as write
 use Rattle.header.proofs.AnswerOf as header-answers
 use Rattle.avp.proofs.AnswerOf as avp-answers
 use Rattle.record.proofs.RecordAs.{record-as-injective}
 use Rattle.value.proofs.ReadAs.{one-value}
 use Rattle.diameter.proofs.AnswerOf as diameter-answers
+use Rattle.writer.proofs.AnswerOf as writer-answers
 
 -- One outcome, where a function lends nothing that it may change: two results that meet the contract are the same. The arguments
 -- stand with the lifetimes of the call, and with the parameters at exit.
@@ -194,6 +196,16 @@ parse-avp-one : (κs : _) (a : _) (r r′ : _) (s s′ : _) → parse-avp.Post �
     → (r ≡ r′) × (now (s .1 .1 .1 .0) ≡ now (s′ .1 .1 .1 .0))
 parse-avp-one κs a r r′ s s′ p q =
     let e = diameter-answers.avp-answer-of-injective r r′ (p .0 ∙ sym (q .0)) in
+    let at-exit = p .1 in
+    let at-exit′ = q .1 in
+    (e, cc)
+
+-- ---- writer: the output, the fourth parameter, is told too
+
+write-one : (κs : _) (a : _) (r r′ : _) (s s′ : _) → write.Post κs a r s → write.Post κs a r′ s′
+    → (r ≡ r′) × (now (s .1 .1 .1 .0) ≡ now (s′ .1 .1 .1 .0))
+write-one κs a r r′ s s′ p q =
+    let e = writer-answers.answer-of-injective r r′ (p .0 ∙ sym (q .0)) in
     let at-exit = p .1 in
     let at-exit′ = q .1 in
     (e, cc)

@@ -69,13 +69,13 @@ returns : tie.Need-returns
 unfolding answerOf stored
 returns c =
     let b = start (c .before .before .before .before) in
-    (too-deep _ _ _ _ _ _ (b .pre .0) (b .pre .1) (asked (c .before) ∙ c .if1 .taken) (deeper (c .before .before)), refl)
+    (not-tiled _ _ _ _ _ _ (b .pre .0) (b .pre .1) (asked (c .before) ∙ not-true _ (c .if1 .taken)), refl)
 
 returns-2 : tie.Need-returns-2
 unfolding answerOf stored
 returns-2 c =
     let b = start (c .before .before .before .before) in
-    (not-tiled _ _ _ _ _ _ (b .pre .0) (b .pre .1) (asked (c .before) ∙ c .if1 .left), refl)
+    (too-deep _ _ _ _ _ _ (b .pre .0) (b .pre .1) (asked (c .before) ∙ not-false _ (c .if1 .left)) (deeper (c .before .before)), refl)
 
 returns-3 : tie.Need-returns-3
 unfolding answerOf stored

@@ -45,7 +45,10 @@ use Rattle.diameter.proofs.fill.+read_avp+read_run+read_value.Lts-read_
 use Rattle.diameter.proofs.fill.+read_avp+read_run+read_value.Lts-read_value as value
 use Rattle.diameter.proofs.fill.+read_avp+read_run+read_value.Tie.{close}
 
--- ---- the measures: what is left of the depth, and within a level the order of the calls
+-- ---- the measures
+
+-- What is left of the depth, and within a level the order of the calls. An empty group at the depth 64 is entered too, so a run may have
+-- the depth 65.
 
 abbrev μ-run : Measures 2 run-kinds.ps ℕ
 μ-run κs a = 3 * (65 - a .1 .1 .1 .0) + 2
@@ -88,8 +91,9 @@ abbrev μ-loop : run.MeasureT-loop
 μ-loop reading s place depth store₀ at₀ n₀ errors₀ store at n errors = length s - at
 
 module _ (t : ℕ) where
-  -- the place of the loop, and of the entry
-  abbrev run-loop : run.After-struct-known (run-calls t) (run-at t) run-reads.Post Inv-loop μ-loop → run.At-loop (run-calls t) (run-at t) run-reads.Post Inv-loop μ-loop
+  -- the loop, from a turn of it; and the entry
+  abbrev run-loop : run.After-struct-known (run-calls t) (run-at t) run-reads.Post Inv-loop μ-loop
+      → run.At-loop (run-calls t) (run-at t) run-reads.Post Inv-loop μ-loop
   run-loop c = c .before .before .before .before .before .before .before
 
   abbrev run-start : run.At-loop (run-calls t) (run-at t) run-reads.Post Inv-loop μ-loop → run.Start (run-calls t) (run-at t) run-reads.Post Inv-loop μ-loop
@@ -130,6 +134,8 @@ module _ (t : ℕ) where
       let l = run-loop k in
       one-filled (run-start l .pre .1 .1) (l .loop .inv .1) (run-own k) (c .read-avp .ensures)
 
+  -- ---- its needs
+
   run-loop-holds : run.Need-loop-holds (run-calls t) (run-at t) run-reads.Post Inv-loop μ-loop
   run-loop-holds c = (omega arith, nothing-filled)
 
@@ -156,10 +162,10 @@ module _ (t : ℕ) where
   run-mul-read-avp c = omega (arith, run-within (run-loop (c .before)))
 
   run-sub-read-avp-2 : run.Need-sub-read-avp-2 (run-calls t) (run-at t) run-reads.Post Inv-loop μ-loop
-  run-sub-read-avp-2 c = run-within (run-loop (c .before))
+  run-sub-read-avp-2 c = omega (arith, run-within (run-loop (c .before)))
 
   run-part-read-avp-start-2 : run.Need-part-read-avp-start-2 (run-calls t) (run-at t) run-reads.Post Inv-loop μ-loop
-  run-part-read-avp-start-2 c = run-within (run-loop (c .before))
+  run-part-read-avp-start-2 c = omega (arith, run-within (run-loop (c .before)))
 
   run-read-avp-requires : run.Need-read-avp-requires (run-calls t) (run-at t) run-reads.Post Inv-loop μ-loop
   run-read-avp-requires c κs =
@@ -204,7 +210,7 @@ avp-calls t = (
 )
 
 module _ (t : ℕ) where
-  -- the entry, from where the size of the header is known; and that place, from the later ones
+  -- the entry, from the place where the size of the header is known; and that place, from the later ones
   abbrev avp-start : avp.After-header-size (avp-calls t) (avp-at t) avp-reads.Post → avp.Start (avp-calls t) (avp-at t) avp-reads.Post
   avp-start c = c .before .before .before
 
@@ -238,6 +244,8 @@ module _ (t : ℕ) where
       (length (take (length store - recordSize) (drop recordSize store)))
   avp-inside c = let b = avp-start c in room-for-members _ (avp-opened c) (b .pre .1 .0 .1) (now (b .args .store)) (b .pre .1 .1)
 
+  -- ---- its needs
+
   avp-sub-read-value : avp.Need-sub-read-value (avp-calls t) (avp-at t) avp-reads.Post
   avp-sub-read-value c = omega (arith, avp-opened c)
 
@@ -251,10 +259,10 @@ module _ (t : ℕ) where
   avp-add-read-value c = omega (arith, avp-inside (c .before))
 
   avp-sub-read-value-2 : avp.Need-sub-read-value-2 (avp-calls t) (avp-at t) avp-reads.Post
-  avp-sub-read-value-2 c = avp-room (c .before)
+  avp-sub-read-value-2 c = omega (arith, avp-room (c .before))
 
   avp-part-read-value-start-2 : avp.Need-part-read-value-start-2 (avp-calls t) (avp-at t) avp-reads.Post
-  avp-part-read-value-start-2 c = avp-room (c .before)
+  avp-part-read-value-start-2 c = omega (arith, avp-room (c .before))
 
   avp-read-value-requires : avp.Need-read-value-requires (avp-calls t) (avp-at t) avp-reads.Post
   avp-read-value-requires c κs = let h = c .before .before in (omega (arith, avp-start h .pre), avp-inside h)
@@ -310,6 +318,8 @@ module _ (t : ℕ) where
       let k = c .before in
       let b = k .before .before .before .before in
       a-group (k .before .new .ensures) (other-address (b .args .reading) _) (sym (k .kind .ensures) ∙ c .if1 .taken)
+
+  -- ---- its needs
 
   value-add-read-run : value.Need-add-read-run (value-calls t) (value-at t) value-reads.Post
   value-add-read-run c = omega (arith, c .before .before .before .before .before .pre .1)

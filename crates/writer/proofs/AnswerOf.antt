@@ -1,0 +1,37 @@
+-- A contract that says `answerOf r ≡ ..` names one outcome: the outcome can be read back from its answer, since a refusal is told by its
+-- number and its amount. And header fields that are the same to the definition are the same.
+-- Assumes nothing.
+use Prim.Native.Nat.{ℕ}
+use mathlib.Core.Path.{_≡_, refl, sym, ap, _∙_}
+use mathlib.Core.Bool.{cond}
+use lib.Dec.{eqb}
+use Rattle.rfc6733.specs.Answer.{Answer, accepted, refused, badHeader, badTable, tooLong}
+use Rattle.rfc6733.specs.Writer as definition
+use Rattle.writer.specs.declared.Fields.{Fields}
+use Rattle.writer.specs.declared.Written.{Written}
+use Rattle.writer.specs.declared.Written.the-variants.{Accepted, BadHeader, BadTable, TooLong, NoRoom}
+use Rattle.writer.specs.Answers.{fieldsAs, answerOf}
+
+abbrev fields-back : definition.Fields → Fields
+fields-back f = record { flags = f .flags; code = f .code; «app_id» = f .appId; «hop_id» = f .hopId; «end_id» = f .endId }
+
+abbrev outcome-back : Answer ℕ → Written
+outcome-back (accepted total) = Accepted total
+outcome-back (refused number amount) =
+    cond (eqb number badHeader) BadHeader
+    (cond (eqb number badTable) (BadTable amount) (cond (eqb number tooLong) TooLong (NoRoom amount)))
+
+outcome-is-back : (r : Written) → outcome-back (answerOf r) ≡ r
+unfolding answerOf
+outcome-is-back (Accepted total) = refl
+outcome-is-back BadHeader = refl
+outcome-is-back (BadTable index) = refl
+outcome-is-back TooLong = refl
+outcome-is-back (NoRoom total) = refl
+
+pub fields-as-injective : (f f′ : Fields) → fieldsAs f ≡ fieldsAs f′ → f ≡ f′
+unfolding fieldsAs
+fields-as-injective f f′ e = ap fields-back e
+
+pub answer-of-injective : (r r′ : Written) → answerOf r ≡ answerOf r′ → r ≡ r′
+answer-of-injective r r′ e = sym (outcome-is-back r) ∙ ap outcome-back e ∙ outcome-is-back r′

@@ -1,0 +1,64 @@
+-- `keeps` meets its contract: its tests are the rules of the definition, in their order, and a group has other ones than a record that
+-- is none.
+-- Assumes nothing.
+use native.Mathlib.Omega.{arith}
+use borrow.Author.Needs.{needs}
+use Rattle.record.specs.Stored.{recordAs}
+use Rattle.writer.proofs.Records.{is-group, no-group}
+use Rattle.writer.proofs.Checks.{no-depth, too-deep, not-allowed, no-kind, other-vendor, then-group, then-leaf}
+use Rattle.writer.proofs.keeps.Statement.{statement}
+use Rattle.writer.proofs.keeps.Tie as tie
+
+returns : tie.Need-returns
+unfolding recordAs
+returns c = no-depth _ _ (recordAs (c .before .before .args .r)) (omega arith)
+
+returns-2 : tie.Need-returns-2
+unfolding recordAs
+returns-2 c = too-deep _ _ (recordAs (c .before .before .before .before .args .r)) (omega arith) (omega arith)
+
+returns-3 : tie.Need-returns-3
+unfolding recordAs
+returns-3 c = not-allowed _ _ (recordAs (c .before .before .before .before .before .before .args .r)) (omega arith) (omega arith) (omega arith)
+
+returns-4 : tie.Need-returns-4
+unfolding recordAs
+returns-4 c = no-kind _ _ (recordAs (c .before .before .before .before .before .before .before .before .args .r)) (omega arith) (omega arith) (omega arith) (omega arith)
+
+returns-5 : tie.Need-returns-5
+unfolding recordAs
+returns-5 c =
+    let asked = c .before in
+    let start = asked .before .before .before .before .before .before .before .before .before in
+    other-vendor _ (start .args .available) (recordAs (start .args .r)) (omega arith) (omega arith) (omega arith) (omega arith) _ (asked .keeps-vendor .ensures) (c .if5 .taken)
+
+returns-6 : tie.Need-returns-6
+unfolding recordAs
+returns-6 c =
+    let asked = c .before .before .before .before in
+    let start = asked .before .before .before .before .before .before .before .before .before in
+    then-group _ (start .args .available) (recordAs (start .args .r)) (omega arith) (omega arith) (omega arith) (omega arith) _ (asked .keeps-vendor .ensures) (c .before .before .before .if5 .left) _
+    (is-group (start .args .r) (c .before .if6 .taken)) (c .keeps-group .ensures)
+
+returns-7 : tie.Need-returns-7
+unfolding recordAs
+returns-7 c =
+    let asked = c .before .before .before .before in
+    let start = asked .before .before .before .before .before .before .before .before .before in
+    then-leaf _ (start .args .available) (recordAs (start .args .r)) (omega arith) (omega arith) (omega arith) (omega arith) _ (asked .keeps-vendor .ensures) (c .before .before .before .if5 .left) _
+    (no-group (start .args .r) (c .before .if6 .left)) (c .keeps-leaf .ensures)
+
+pub keeps-spec : {M : Type 1} → statement M
+keeps-spec =
+    tie.close
+    (tie.spec
+    returns
+    returns-2
+    returns-3
+    returns-4
+    (λ c κs. search needs)
+    returns-5
+    (λ c κs. search needs)
+    returns-6
+    (λ c κs. search needs)
+    returns-7)

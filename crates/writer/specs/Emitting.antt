@@ -1,0 +1,43 @@
+-- What the functions that put AVPs ask for, and what they leave.
+-- Assumes nothing: these are definitions.
+use Prim.Native.Nat.{ℕ, _+_, _≤_}
+use mathlib.Core.Path.{_≡_}
+use mathlib.Core.List.{List}
+use lib.ListN.{length, take, drop}
+use Rattle.octets.specs.Octets.{over}
+use Rattle.rfc6733.specs.Record.{Record}
+use Rattle.rfc6733.specs.Forest.{Forest}
+use Rattle.rfc6733.specs.Writer.{tableOf, statedData, forestBytes, most24}
+use Rattle.table.specs.Forests.{count}
+use Rattle.table.specs.Rules.{Leaf, Valid}
+use Rattle.writer.specs.declared.Taken.{Taken}
+
+-- ---- a record that is no group
+
+-- its data
+abbrev pub dataIn : List ℕ → Record → List ℕ
+dataIn pool r = take (statedData r) (drop (r .place) pool)
+
+-- its data are there, and its AVP fits the room
+pub record LeafRoom (r : Record) (pool : List ℕ) (room : ℕ) : Type 0 where
+  pub leaf : Leaf (length pool) r
+  pub fits : r .length + r .padding ≤ room
+
+-- n bytes were put, and they are bs
+pub record Put (n : ℕ) (bs before after : List ℕ) : Type 0 where
+  pub size-is : n ≡ length bs
+  pub out-is : after ≡ over bs before
+
+-- ---- a run of a table
+
+-- the table is valid at a depth, and the bytes of f fit the room and a length
+pub record Ready (f : Forest) (depth : ℕ) (table pool : List ℕ) (room : ℕ) : Type 0 where
+  pub valid : Valid depth (length pool) (tableOf table)
+  pub fits : length (forestBytes pool f) ≤ room
+  pub short : length (forestBytes pool f) ≤ most24
+
+-- the records of f were taken, and its bytes put
+pub record Done (f : Forest) (pool : List ℕ) (t : Taken) (before after : List ℕ) : Type 0 where
+  pub records-are : t .records ≡ count f
+  pub size-is : t .size ≡ length (forestBytes pool f)
+  pub out-is : after ≡ over (forestBytes pool f) before

@@ -1,0 +1,21 @@
+-- What measuring a run of a table asks for, and what it answers.
+-- Assumes nothing: these are definitions.
+use Prim.Native.Nat.{ℕ, _≤_}
+use mathlib.Core.Bool.{cond}
+use mathlib.Core.List.{List}
+use lib.Dec.{ltb}
+use Rattle.rfc6733.specs.Forest.{Forest}
+use Rattle.rfc6733.specs.Writer.{tableOf, most24}
+use Rattle.table.specs.Forests.{count, size}
+use Rattle.table.specs.Rules.{Valid}
+use Rattle.writer.specs.declared.Measured.{Measured}
+use Rattle.writer.specs.declared.Measured.the-variants.{Over, Size}
+
+-- the table is valid at a depth, whatever its places point into
+pub record Orderly (depth : ℕ) (table : List ℕ) (left : ℕ) : Type 0 where
+  pub available : ℕ
+  pub valid : Valid depth available (tableOf table)
+  pub short : left ≤ most24
+
+unfoldable pub sizedOf : ℕ → Forest → Measured
+sizedOf left f = cond (ltb left (size f)) Over (Size (count f) (size f))
