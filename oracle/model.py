@@ -1,19 +1,23 @@
 """A model of document 01, written from its text and from RFC 6733 and RFC 3629, not from our code.
 
-It answers a case as document 01 says: message, header alone or one AVP alone, in either reading. It is slow and plain on
+It answers a case as document 01 says: message, header alone or one AVP alone, in either reading, or a table to be written. It is slow and plain on
 purpose. The frames that crates/replay reads and the answers that it must write are made with it:
 
     python3 oracle/model.py frames < oracle/cases.txt > crates/replay/stdin
     python3 oracle/model.py answers < oracle/cases.txt > crates/replay/stdout
 
-A frame: function (0 message, 1 header alone, 2 one AVP), reading (0 sawp, 1 RFC) and depth limit in a byte each, room in
+A frame: function (0 message, 1 header alone, 2 one AVP, 3 a table to be written), reading (0 sawp, 1 RFC) and depth limit in a byte each, room in
 records in 2 bytes, length in 4, and the bytes. An answer: the number in a byte and the amount in 4; where the number is 0, the
 header's 20 bytes (not for one AVP), the flags in a byte, the number of records in 2, headers tried in 4, the length in 4; and always the
-whole store afterwards, which has 5 bytes more than its records take and was lent full of the byte A5.
+whole store afterwards, which has 5 bytes more than its records take and was lent full of the byte A5. For a table the bytes are
+flags in 1, command code, application, hop-by-hop, end-to-end and the table's length in 4 each, the table and the bytes that its places point
+into; the store is the output, and an acceptance answers the total in 4 bytes.
 """
+import re
 import sys
 
 INCOMPLETE, NOT_VERSION, BAD_LENGTH, NOT_TILED, TOO_DEEP, NO_RECORDS, BAD_DEPTH = 1, 2, 3, 4, 5, 6, 7
+BAD_HEADER, BAD_TABLE, TOO_LONG, NO_ROOM = 8, 9, 10, 11
 DATA_VALUE, DATA_LENGTH, RESERVED, PADDING = 1, 2, 4, 8
 
 SAWP_KINDS = {
@@ -190,8 +194,66 @@ def avp_alone(reading, limit, room, data):
     return flags, records, tried, size
 
 
+def row(r):
+    """A record as the writer takes it."""
+    return {
+        "code": r[0:4], "flags": r[4], "length": be(r[5:8]), "vendor": r[8:12], "place": be(r[12:16]),
+        "depth": r[16], "kind": r[17], "padding": r[19], "pads": r[20:23], "head": 12 if r[4] & 0x80 else 8,
+    }
+
+
+def keeps(r, allowed, pool):
+    if not 1 <= r["depth"] <= 64 or r["depth"] > allowed or r["kind"] > 14:
+        return False
+    if r["head"] == 8 and any(r["vendor"]):
+        return False
+    if r["kind"] == 8:
+        return r["padding"] == 0 and not any(r["pads"])
+    size = r["length"] - r["head"]
+    if size < 0 or r["place"] + size > len(pool):
+        return False
+    return r["padding"] == (4 - size % 4) % 4 and not any(r["pads"][r["padding"] :])
+
+
+def avps_of(rows, depth, pool):
+    """The AVPs of the rows at the front that stand at a depth, and the rows after them."""
+    out = b""
+    while rows and rows[0]["depth"] >= depth:
+        r, rows = rows[0], rows[1:]
+        if r["kind"] == 8:
+            body, rows = avps_of(rows, r["depth"] + 1, pool)
+        else:
+            body = pool[r["place"] : r["place"] + r["length"] - r["head"]]
+        head = r["code"] + bytes([r["flags"]]) + ((r["head"] + len(body)) & 0xFFFFFF).to_bytes(3, "big")
+        out += head + (r["vendor"] if r["head"] == 12 else b"") + body + r["pads"][: r["padding"]]
+    return out, rows
+
+
+def written(data, room):
+    flags, code, ids, size = data[0], be(data[1:5]), data[5:17], be(data[17:21])
+    table, pool = data[21 : 21 + size], data[21 + size :]
+    if code > 0xFFFFFF:
+        raise Refused(BAD_HEADER)
+    rows, allowed = [row(table[i : i + 32]) for i in range(0, len(table) // 32 * 32, 32)], 1
+    for index, r in enumerate(rows):
+        if not keeps(r, allowed, pool):
+            raise Refused(BAD_TABLE, index)
+        allowed = r["depth"] + (r["kind"] == 8)
+    if len(table) % 32:
+        raise Refused(BAD_TABLE, len(rows))
+    body = avps_of(rows, 1, pool)[0]
+    total = 20 + len(body)
+    if total > 0xFFFFFF:
+        raise Refused(TOO_LONG)
+    if total > room:
+        raise Refused(NO_ROOM, total)
+    return bytes([1]) + total.to_bytes(3, "big") + bytes([flags]) + code.to_bytes(3, "big") + ids + body
+
+
 LENT, SPARE = 0xA5, 5
-FUNCTIONS, READINGS = ("message", "header", "avp"), ("sawp", "rfc")
+# (00)*3 in a case is 000000
+REPEATED = re.compile(r"\(([0-9a-f]+)\)\*([0-9]+),?")
+FUNCTIONS, READINGS = ("message", "header", "avp", "table"), ("sawp", "rfc")
 
 
 def frame(function, reading, limit, room, data):
@@ -202,6 +264,9 @@ def frame(function, reading, limit, room, data):
 def answer(function, reading, limit, room, data):
     size = room * 32 + SPARE
     try:
+        if function == "table":
+            out = written(data, size)
+            return bytes(5) + len(out).to_bytes(4, "big") + out.ljust(size, bytes([LENT]))
         if function == "header":
             flags, records, tried, length = header_alone(data)
         elif function == "avp":
@@ -224,7 +289,7 @@ def main():
         if not words or words[0].startswith("#"):
             continue
         function, reading, limit, room, text = words
-        data = b"" if text == "-" else bytes.fromhex(text)
+        data = b"" if text == "-" else bytes.fromhex(REPEATED.sub(lambda m: m[1] * int(m[2]), text))
         sys.stdout.buffer.write(make(function, reading, int(limit), int(room), data))
 
 

@@ -6,6 +6,10 @@ use diameter::DecodedAvp;
 use header::Header;
 use header::Parsed;
 use record::Record;
+use writer::Fields;
+use writer::Written;
+ghost use Prim.Native.Nat.{_≤_};
+ghost use lib.ListN.{length};
 
 const FRAME_SIZE: usize = 9;
 
@@ -103,6 +107,46 @@ fn one_avp(reading: Reading, limit: usize, input: &[u8], store: &mut [u8]) {
     }
 }
 
+// The fields, the length of the table, the table and the pool stand in the input one after the other.
+const TABLE: usize = 21;
+
+fn fields_of(f: &[u8]) -> Fields
+    requires { ⌜ 17 ≤ length (now f) ⌝ }
+{
+    Fields {
+        flags: f[0],
+        code: octets::be_u32(f[1], f[2], f[3], f[4]),
+        app_id: octets::be_u32(f[5], f[6], f[7], f[8]),
+        hop_id: octets::be_u32(f[9], f[10], f[11], f[12]),
+        end_id: octets::be_u32(f[13], f[14], f[15], f[16]),
+    }
+}
+
+fn write_written(w: Written) {
+    match w {
+        Written::Accepted(total) => {
+            write_refusal(0, 0);
+            write_count(total);
+        }
+        Written::BadHeader => write_refusal(8, 0),
+        Written::BadTable(index) => write_refusal(9, index),
+        Written::TooLong => write_refusal(10, 0),
+        Written::NoRoom(total) => write_refusal(11, total),
+    }
+}
+
+fn table(input: &[u8], out: &mut [u8]) {
+    if input.len() < TABLE {
+        return;
+    }
+    let size = octets::be_u32(input[17], input[18], input[19], input[20]) as usize;
+    if input.len() - TABLE < size {
+        return;
+    }
+    let end = TABLE + size;
+    write_written(writer::write(fields_of(input), &input[TABLE..end], &input[end..], out));
+}
+
 fn reading_of(b: u8) -> Reading {
     if b == 0 { Reading::Sawp } else { Reading::Rfc }
 }
@@ -123,7 +167,8 @@ fn answer(frame: [u8; FRAME_SIZE], input: &[u8], store: &mut [u8]) {
     match function {
         0 => message(reading, limit, input, store),
         1 => header_alone(input),
-        _ => one_avp(reading, limit, input, store),
+        2 => one_avp(reading, limit, input, store),
+        _ => table(input, store),
     }
 }
 
