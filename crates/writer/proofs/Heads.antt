@@ -16,7 +16,8 @@ use Rattle.table.specs.Parts.{headerFields, headFields}
 -- ---- a message's header
 
 pub header-put : (f : Fields) (n : ℕ) (l : List ℕ) → 20 ≤ length l
-    → sets (sets (sets (sets (sets (sets (sets l 0 (octets 1 1)) 1 (octets 3 n)) 4 (octets 1 (f .flags))) 5 (octets 3 (f .code))) 8 (octets 4 (f .appId))) 12 (octets 4 (f .hopId))) 16 (octets 4 (f .endId))
+    → let front = sets (sets (sets (sets l 0 (octets 1 1)) 1 (octets 3 n)) 4 (octets 1 (f .flags))) 5 (octets 3 (f .code)) in
+    sets (sets (sets front 8 (octets 4 (f .appId))) 12 (octets 4 (f .hopId))) 16 (octets 4 (f .endId))
     ≡ over (pack (headerFields f n)) l
 unfolding octets over
 header-put f n l h = sets-eq (pack (headerFields f n)) l 0 h

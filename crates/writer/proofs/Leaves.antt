@@ -53,7 +53,8 @@ pub record Numbers (r : code.Record) (pool : List ℕ) (room h : ℕ) : Type 0 w
   pub few : r .padding ≤ 3
   pub fits : r .length + r .padding ≤ room
 
-pub numbers : (r : code.Record) (pool : List ℕ) (room h : ℕ) → LeafRoom (recordAs r) pool room → h ≡ headOf (recordAs r) → Numbers r pool room h
+pub numbers : (r : code.Record) (pool : List ℕ) (room h : ℕ) → LeafRoom (recordAs r) pool room
+    → h ≡ headOf (recordAs r) → Numbers r pool room h
 unfolding recordAs
 numbers r pool room h w e =
     let s = leaf-sizes pool (recordAs r) (w .leaf) in

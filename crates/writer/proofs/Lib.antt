@@ -5,4 +5,5 @@ pub mod Leaves
 pub mod Records
 pub mod Runs
 pub mod Sizes
+pub mod Steps
 pub mod Writing

@@ -7,7 +7,6 @@ use mathlib.Core.Bool.{true, false}
 use mathlib.Core.List.{List, [], _++_, append-assoc, append-nil}
 use native.Mathlib.Omega.{arith}
 use lib.ListN.{length, take, drop, length-append, length-drop}
-use lib.Seq.{drop-drop}
 use borrow.Rule.Slice.PartMut.{putMid}
 use Rattle.octets.specs.Octets.{pack, over}
 use Rattle.octets.proofs.Lists.{over-length, over-none, over-more, over-before, lent}
@@ -16,13 +15,14 @@ use Rattle.rfc6733.specs.Forest.{Forest, none, node}
 use Rattle.rfc6733.specs.Writer.{recordAt, tableOf, isGroup, headOf, avpBytes, forestBytes, most24}
 use Rattle.table.specs.Forests.{count}
 use Rattle.table.specs.Parts.{headFields, padBytes, bodyOf}
-use Rattle.table.specs.Rules.{Unpadded, Leaf, Good, Valid}
+use Rattle.table.specs.Rules.{Unpadded, Leaf, Valid}
 use Rattle.table.specs.Tables.{run, one}
 use Rattle.table.proofs.Lengths.{head-length}
-use Rattle.table.proofs.Turns.{Turn, turn}
+use Rattle.table.proofs.Turns.{Turn}
 use Rattle.writer.specs.declared.Taken.{Taken}
 use Rattle.writer.specs.Emitting.{dataIn, Put, Ready, Done}
 use Rattle.writer.proofs.Leaves.{leaf-sizes}
+use Rattle.writer.proofs.Steps.{Front, front, Step, step}
 
 -- ---- a run, record by record
 
@@ -35,7 +35,8 @@ pub record Going (pool : List ℕ) (depth : ℕ) (f : Forest) (s : List ℕ) (n 
   pub count-is : count f ≡ n + count (run depth s)
   pub valid : Valid depth (length pool) (tableOf s)
 
-pub none-put : (pool : List ℕ) (depth : ℕ) (s out : List ℕ) → Valid depth (length pool) (tableOf s) → Going pool depth (run depth s) s 0 0 out out
+pub none-put : (pool : List ℕ) (depth : ℕ) (s out : List ℕ) → Valid depth (length pool) (tableOf s)
+    → Going pool depth (run depth s) s 0 0 out out
 none-put pool depth s out v =
     record { put = []; size-is = refl; bytes-are = refl; out-is = sym (over-none out); count-is = omega arith; valid = v }
 
@@ -51,24 +52,14 @@ left {pool} {depth} {f} {s} {n} {b} {before} h g =
     record { all = omega arith; same = ap length (g .out-is) ∙ over-length (g .put) before (omega arith) }
 
 -- the run is its first record with its members, and what follows
-record Split (pool : List ℕ) (depth : ℕ) (s z : List ℕ) : Type 0 where
-  pub bytes-are : forestBytes pool (run depth s) ≡ forestBytes pool (one s) ++ forestBytes pool (run depth z)
-  pub count-is : count (run depth s) ≡ count (one s) + count (run depth z)
-  pub length-is : length (forestBytes pool (run depth s)) ≡ length (forestBytes pool (one s)) + length (forestBytes pool (run depth z))
-
-node-split : (pool : List ℕ) (r : Record) (i t : Forest) → forestBytes pool (node r i t) ≡ forestBytes pool (node r i none) ++ forestBytes pool t
+node-split : (pool : List ℕ) (r : Record) (i t : Forest)
+    → forestBytes pool (node r i t) ≡ forestBytes pool (node r i none) ++ forestBytes pool t
 node-split pool r i t = ap (λ (x : List ℕ). x ++ forestBytes pool t) (sym (append-nil (avpBytes r (bodyOf pool r (forestBytes pool i)))))
 
-split : (pool : List ℕ) (depth : ℕ) (s z : List ℕ) → Turn depth (length pool) s z → Split pool depth s z
-split pool depth s z t =
-    let e : forestBytes pool (run depth s) ≡ forestBytes pool (one s) ++ forestBytes pool (run depth z) =
+run-split : (pool : List ℕ) (depth : ℕ) (s z : List ℕ) → Turn depth (length pool) s z
+    → forestBytes pool (run depth s) ≡ forestBytes pool (one s) ++ forestBytes pool (run depth z)
+run-split pool depth s z t =
     rw (t .run-is, t .one-is) (node-split pool (recordAt s) (run (depth + 1) (drop recordSize s)) (run depth z))
-    in
-    record {
-      bytes-are = e;
-      count-is = rw (t .run-is, t .one-is) (omega arith);
-      length-is = ap length e ∙ length-append (forestBytes pool (one s)) (forestBytes pool (run depth z));
-    }
 
 -- so many records more are there, and not none; and their bytes are within the size of all
 pub record Further (table : List ℕ) (n b : ℕ) (t : Taken) (all : ℕ) : Type 0 where
@@ -76,7 +67,7 @@ pub record Further (table : List ℕ) (n b : ℕ) (t : Taken) (all : ℕ) : Type
   pub some : 1 ≤ t .records
   pub within : b + t .size ≤ all
 
-module _ (pool : List ℕ) (depth : ℕ) (f : Forest) (table : List ℕ) (n b : ℕ) (before now : List ℕ) (some : n < length table / recordSize)
+module _ (pool : List ℕ) (depth : ℕ) (f : Forest) (table : List ℕ) (n b : ℕ) (before now : List ℕ) (more : n < length table / recordSize)
     (low : depth ≤ recordAt (drop (n * recordSize) table) .depth) (g : Going pool depth f (drop (n * recordSize) table) n b before now) where
   abbrev here : List ℕ
   here = drop (n * recordSize) table
@@ -84,52 +75,54 @@ module _ (pool : List ℕ) (depth : ℕ) (f : Forest) (table : List ℕ) (n b : 
   abbrev after : List ℕ
   after = drop (count (one here) * recordSize) here
 
-  next : Turn depth (length pool) here after
-  next = turn depth (length pool) here (omega (arith, length-drop (n * recordSize) table)) (g .valid) low
+  next : Step depth (length pool) table n here after
+  next = step depth (length pool) table n more low (g .valid)
 
-  parts : Split pool depth here after
-  parts = split pool depth here after next
+  split : forestBytes pool (run depth here) ≡ forestBytes pool (one here) ++ forestBytes pool (run depth after)
+  split = run-split pool depth here after (next .here-is)
+
+  sum : length (forestBytes pool (run depth here)) ≡ length (forestBytes pool (one here)) + length (forestBytes pool (run depth after))
+  sum = ap length split ∙ length-append (forestBytes pool (one here)) (forestBytes pool (run depth after))
 
   -- it can be put
   pub one-ready : length (forestBytes pool f) ≤ most24 → length (forestBytes pool f) ≤ length before
       → Ready (one here) (recordAt here .depth) here pool (length (drop b now))
   one-ready short fits =
       let y = left fits g in
-      let x = parts .length-is in
-      record { valid = rw (next .depth-is) (g .valid); fits = omega (arith, length-drop b now); short = omega arith }
+      let x = sum in
+      record {
+        valid = rw (next .here-is .depth-is) (g .valid);
+        fits = omega (arith, length-drop b now);
+        short = omega arith;
+      }
 
   module _ (t : Taken) (back : List ℕ) (d : Done (one here) pool t (drop b now) back) where
-    pub one-put : Going pool depth f (drop ((n + t .records) * recordSize) table) (n + t .records) (b + t .size) before (putMid b (length now - b) now back)
+    pub one-put : Going pool depth f (drop ((n + t .records) * recordSize) table) (n + t .records) (b + t .size) before
+        (putMid b (length now - b) now back)
     one-put =
         let m = forestBytes pool (one here) in
-        let c = g .count-is in
-        let a = d .records-are in
-        let z : n * recordSize + count (one here) * recordSize ≡ (n + t .records) * recordSize = omega arith in
-        rw (lent b now back, ← z, ← (drop-drop (count (one here) * recordSize) (n * recordSize) table))
+        rw (lent b now back, d .records-are, next .after-is)
         (record {
           put = g .put ++ m;
           size-is = omega (arith, length-append (g .put) m, g .size-is, d .size-is);
           bytes-are =
               g .bytes-are
-              ∙ ap (λ (x : List ℕ). g .put ++ x) (parts .bytes-are)
+              ∙ ap (λ (x : List ℕ). g .put ++ x) split
               ∙ sym (append-assoc (g .put) m (forestBytes pool (run depth after)));
           out-is =
               ap (λ (x : List ℕ). take b now ++ x) (d .out-is)
               ∙ ap (λ (x : List ℕ). take b x ++ over m (drop b x)) (g .out-is)
               ∙ over-more (g .put) m before b (g .size-is);
-          count-is = omega (arith, parts .count-is);
-          valid = next .valid-after;
+          count-is = omega (arith, g .count-is, next .count-is);
+          valid = next .here-is .valid-after;
         })
 
     pub further : length (forestBytes pool f) ≤ length before → Further table n b t (length (forestBytes pool f))
-    further fits =
-        let o : count (one here) ≡ 1 + count (run (depth + 1) (drop recordSize here)) + 0 = ap count (next .one-is) in
-        let l = length-drop (n * recordSize) table in
-        let a = d .records-are in
+    further h =
         record {
-          fits = omega (arith, next .fits);
-          some = omega arith;
-          within = omega (arith, left fits g, parts .length-is, d .size-is);
+          fits = rw (d .records-are) (next .fits);
+          some = rw (d .records-are) (next .some);
+          within = omega (arith, left h g, sum, d .size-is);
         }
 
 pub all-put : (pool : List ℕ) (depth : ℕ) (f : Forest) (s : List ℕ) (t : Taken) (before now : List ℕ) → run depth s ≡ none
@@ -174,45 +167,43 @@ pub record Single (pool s : List ℕ) (r : Record) : Type 0 where
 
 module _ (pool : List ℕ) (depth : ℕ) (s : List ℕ) (r : Record) (is : r ≡ recordAt s) (level : r .depth ≡ depth) (some : recordSize ≤ length s)
     (v : Valid depth (length pool) (tableOf s)) where
-  abbrev members : Forest
-  members = run (depth + 1) (drop recordSize s)
+  abbrev members : List ℕ
+  members = forestBytes pool (run (depth + 1) (drop recordSize s))
 
-  this : Turn depth (length pool) s (drop (count (one s) * recordSize) s)
-  this = turn depth (length pool) s some v (rw (← is) (omega arith))
+  this : Front depth (length pool) s r
+  this = front depth (length pool) s r is level some v
 
-  good : Good depth (length pool) r
-  good = rw is (this .good-here)
-
-  one-is : one s ≡ node r members none
-  one-is = rw is (this .one-is)
-
-  one-bytes : forestBytes pool (one s) ≡ avpBytes r (bodyOf pool r (forestBytes pool members))
-  one-bytes = ap (forestBytes pool) one-is ∙ append-nil (avpBytes r (bodyOf pool r (forestBytes pool members)))
+  one-bytes : forestBytes pool (one s) ≡ avpBytes r (bodyOf pool r members)
+  one-bytes = ap (forestBytes pool) (this .one-is) ∙ append-nil (avpBytes r (bodyOf pool r members))
 
   pub group : isGroup r ≡ true → Group pool depth s r
   group g =
-      let m = forestBytes pool members in
-      let y : avpBytes r (bodyOf pool r m) ≡ pack (headFields r (headOf r + length m)) ++ m = rw g (no-padding r m (good .group g)) in
+      let front-bytes = pack (headFields r (headOf r + length members)) in
+      let y : avpBytes r (bodyOf pool r members) ≡ front-bytes ++ members = rw g (no-padding r members (this .good .group g)) in
       let b = one-bytes ∙ y in
       record {
-        valid = this .valid-inside (rw (← is) g);
+        valid = this .valid-inside g;
         bytes-are = b;
         size-is =
             ap length b
-            ∙ length-append (pack (headFields r (headOf r + length m))) m
-            ∙ ap (λ (x : ℕ). x + length m) (head-length r (headOf r + length m));
-        count-is = ap count one-is ∙ omega arith;
-        most = omega (arith, good .most);
+            ∙ length-append front-bytes members
+            ∙ ap (λ (x : ℕ). x + length members) (head-length r (headOf r + length members));
+        count-is = this .count-is;
+        most = omega (arith, this .good .most);
         fits = this .fits;
       }
 
   pub single : isGroup r ≡ false → Single pool s r
   single g =
-      let z : members ≡ none = this .none-inside (rw (← is) g) in
-      let y : avpBytes r (bodyOf pool r (forestBytes pool members)) ≡ avpBytes r (dataIn pool r) = rw g in
+      let y : avpBytes r (bodyOf pool r members) ≡ avpBytes r (dataIn pool r) = rw g in
       let b = one-bytes ∙ y in
-      let l = good .leaf g in
-      record { bytes-are = b; size-is = ap length b ∙ leaf-sizes pool r l .avp-is; count-is = ap count one-is ∙ rw z; leaf = l }
+      let l = this .good .leaf g in
+      record {
+        bytes-are = b;
+        size-is = ap length b ∙ leaf-sizes pool r l .avp-is;
+        count-is = this .count-is ∙ rw (this .none-inside g);
+        leaf = l;
+      }
 
 pub group-done : (pool : List ℕ) (depth : ℕ) (s : List ℕ) (r : Record) → Group pool depth s r
     → (t : Taken) (before back last : List ℕ) (h n : ℕ) → h ≡ headOf r → h ≤ length before → n ≡ h + t .size
@@ -233,7 +224,8 @@ group-done pool depth s r g t before back last h n eh fits en d e =
           ∙ ap (λ (x : List ℕ). over x before) (sym (g .bytes-are));
     }
 
-pub single-done : (pool s : List ℕ) (r : Record) → Single pool s r → (n : ℕ) (before last : List ℕ) → Put n (avpBytes r (dataIn pool r)) before last
+pub single-done : (pool s : List ℕ) (r : Record) → Single pool s r → (n : ℕ) (before last : List ℕ)
+    → Put n (avpBytes r (dataIn pool r)) before last
     → Done (one s) pool (record { records = 1; size = n }) before last
 single-done pool s r w n before last p =
     record {

@@ -6,19 +6,18 @@ use mathlib.Core.Path.{_≡_, refl, ap, _∙_}
 use mathlib.Core.Bool.{Bool, true, false, cond}
 use mathlib.Core.List.{List}
 use native.Mathlib.Omega.{arith}
-use lib.ListN.{length, drop, length-drop}
-use lib.Seq.{drop-drop}
+use lib.ListN.{length, drop}
 use lib.Dec.{ltb}
 use borrow.Author.Tests.{ltb-true, ltb-false, lt-ltb, le-ltb}
 use Rattle.rfc6733.specs.Record.{Record, recordSize}
-use Rattle.rfc6733.specs.Forest.{Forest, none, node}
+use Rattle.rfc6733.specs.Forest.{Forest, none}
 use Rattle.rfc6733.specs.Writer.{recordAt, tableOf, isGroup, headOf, statedData, most24}
 use Rattle.table.specs.Forests.{count, size}
-use Rattle.table.specs.Rules.{Good, Valid}
+use Rattle.table.specs.Rules.{Valid}
 use Rattle.table.specs.Tables.{run, one}
-use Rattle.table.proofs.Turns.{Turn, turn}
 use Rattle.writer.specs.declared.Measured.the-variants.{Over, Size}
 use Rattle.writer.specs.Sizing.{Orderly, sizedOf}
+use Rattle.writer.proofs.Steps.{Front, front, Step, step}
 
 -- ---- facts and answers
 
@@ -65,55 +64,50 @@ pub none-passed : (depth : ℕ) (s : List ℕ) (left : ℕ) → Orderly depth s 
 none-passed depth s left o =
     record { within = omega arith; size-is = omega arith; count-is = omega arith; available = o .available; valid = o .valid }
 
--- the run is its first record with its members, and what follows
-record Sum (depth : ℕ) (s z : List ℕ) : Type 0 where
-  pub size-is : size (run depth s) ≡ size (one s) + size (run depth z)
-  pub count-is : count (run depth s) ≡ count (one s) + count (run depth z)
-
-sum : {depth n : ℕ} {s z : List ℕ} → Turn depth n s z → Sum depth s z
-sum t = record { size-is = rw (t .run-is, t .one-is) (omega arith); count-is = rw (t .run-is, t .one-is) (omega arith) }
-
 -- i records more are there, and not none
 pub record Further (table : List ℕ) (n i : ℕ) : Type 0 where
   pub fits : (n + i) * recordSize ≤ length table
   pub some : 1 ≤ i
 
-module _ (depth : ℕ) (f : Forest) (table : List ℕ) (left n z : ℕ) (some : n < length table / recordSize)
+module _ (depth : ℕ) (f : Forest) (table : List ℕ) (left n z : ℕ) (more : n < length table / recordSize)
     (low : depth ≤ recordAt (drop (n * recordSize) table) .depth) (p : Passed depth f (drop (n * recordSize) table) left n z) where
   abbrev here : List ℕ
   here = drop (n * recordSize) table
 
-  next : Turn depth (p .available) here (drop (count (one here) * recordSize) here)
-  next = turn depth (p .available) here (omega (arith, length-drop (n * recordSize) table)) (p .valid) low
+  abbrev after : List ℕ
+  after = drop (count (one here) * recordSize) here
+
+  next : Step depth (p .available) table n here after
+  next = step depth (p .available) table n more low (p .valid)
+
+  -- the run is its first record with its members, and what follows
+  sum : size (run depth here) ≡ size (one here) + size (run depth after)
+  sum = let t = next .here-is in rw (t .run-is, t .one-is) (omega arith)
 
   pub one-orderly : left ≤ most24 → Orderly (recordAt here .depth) here (left - z)
-  one-orderly h = record { available = p .available; valid = rw (next .depth-is) (p .valid); short = omega arith }
+  one-orderly h = record { available = p .available; valid = rw (next .here-is .depth-is) (p .valid); short = omega arith }
 
   -- too much already
   pub then-over : left - z < size (one here) → Over ≡ sizedOf left f
-  then-over h = is-over left f (omega (arith, sum next))
+  then-over h = is-over left f (omega (arith, sum))
 
   module _ (i j : ℕ) (k : Known (left - z) (one here) i j) where
     pub one-passed : Passed depth f (drop ((n + i) * recordSize) table) left (n + i) (z + j)
     one-passed =
-        let x : n * recordSize + count (one here) * recordSize ≡ (n + i) * recordSize = omega arith in
-        let y = sum next in
-        rw (← x, ← (drop-drop (count (one here) * recordSize) (n * recordSize) table))
+        rw (k .records-are, next .after-is)
         (record {
           within = omega arith;
-          size-is = omega arith;
-          count-is = omega arith;
+          size-is = omega (arith, sum);
+          count-is = omega (arith, next .count-is);
           available = p .available;
-          valid = next .valid-after;
+          valid = next .here-is .valid-after;
         })
 
     pub further : Further table n i
-    further =
-        let o : count (one here) ≡ 1 + count (run (depth + 1) (drop recordSize here)) + 0 = ap count (next .one-is) in
-        let l = length-drop (n * recordSize) table in
-        record { fits = omega (arith, next .fits); some = omega arith }
+    further = rw (k .records-are) (record { fits = next .fits; some = next .some })
 
-pub then-ends : (depth : ℕ) (f : Forest) (s : List ℕ) (left n z : ℕ) → run depth s ≡ none → Passed depth f s left n z → Size n z ≡ sizedOf left f
+pub then-ends : (depth : ℕ) (f : Forest) (s : List ℕ) (left n z : ℕ) → run depth s ≡ none → Passed depth f s left n z
+    → Size n z ≡ sizedOf left f
 then-ends depth f s left n z e p =
     let a = ap size e in
     let b = ap count e in
@@ -139,31 +133,25 @@ module _ (depth : ℕ) (s : List ℕ) (r : Record) (left : ℕ) (is : r ≡ reco
   abbrev members : Forest
   members = run (depth + 1) (drop recordSize s)
 
-  this : Turn depth (o .available) s (drop (count (one s) * recordSize) s)
-  this = turn depth (o .available) s some (o .valid) (rw (← is) (omega arith))
-
-  good : Good depth (o .available) r
-  good = rw is (this .good-here)
-
-  one-is : one s ≡ node r members none
-  one-is = rw is (this .one-is)
+  this : Front depth (o .available) s r
+  this = front depth (o .available) s r is level some (o .valid)
 
   pub inside : isGroup r ≡ true → (fewer : ℕ) → fewer ≤ left → Inside depth s r fewer
   inside g fewer h =
-      let u = good .group g in
+      let u = this .good .group g in
       let y : cond (isGroup r) (size members) (statedData r) ≡ size members = rw g in
       record {
-        size-is = ap size one-is ∙ omega arith;
-        count-is = ap count one-is ∙ omega arith;
-        orderly = record { available = o .available; valid = this .valid-inside (rw (← is) g); short = omega (arith, o .short) };
-        most = omega (arith, good .most);
+        size-is = ap size (this .one-is) ∙ omega arith;
+        count-is = this .count-is;
+        orderly = record { available = o .available; valid = this .valid-inside g; short = omega (arith, o .short) };
+        most = omega (arith, this .good .most);
         fits = this .fits;
       }
 
   pub alone : isGroup r ≡ false → Alone s r
   unfolding statedData
   alone g =
-      let l = good .leaf g in
-      let z : members ≡ none = this .none-inside (rw (← is) g) in
+      let l = this .good .leaf g in
       let y : cond (isGroup r) (size members) (statedData r) ≡ r .length - headOf r = rw g in
-      record { size-is = ap size one-is ∙ omega (arith, l .long); count-is = ap count one-is ∙ rw z }
+      let z = ap size (this .none-inside g) in
+      record { size-is = ap size (this .one-is) ∙ omega (arith, l .long); count-is = this .count-is ∙ rw (this .none-inside g) }

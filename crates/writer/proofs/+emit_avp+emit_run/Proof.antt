@@ -71,15 +71,21 @@ emit-avp-calls t = (
 )
 
 module _ (t : ℕ) where
-  -- the function's entry, and a group whose header's size is known
+  -- the function's entry, a group whose header's size is known, and one whose members are put
   abbrev Entry : Type 0
   Entry = emit-avp-lts.Start (emit-avp-calls t) (emit-avp-at t) emit-avp.Post
 
   abbrev Grouped : Type 0
   Grouped = emit-avp-lts.After-header-size (emit-avp-calls t) (emit-avp-at t) emit-avp.Post
 
+  abbrev Members : Type 0
+  Members = emit-avp-lts.After-emit-run (emit-avp-calls t) (emit-avp-at t) emit-avp.Post
+
   abbrev entry : Grouped → Entry
   entry e = e .before .before .before .before .before .before
+
+  abbrev this-one : Members → Grouped
+  this-one c = c .before .before .before .before
 
   abbrev header : Grouped → ℕ
   header e = e .header-size .result
@@ -103,38 +109,39 @@ module _ (t : ℕ) where
   this-group : (e : Grouped) → let b = entry e in Group (pool b) (b .args .r .depth) (table b) (this b)
   this-group e =
       let b = entry e in
-      group _ _ _ (this b) (b .pre .1 .0 .0) (same (b .args .r) .depth-is) (b .pre .1 .0 .1) (b .pre .1 .1 .valid) (is-group (b .args .r) (e .before .if1 .taken))
+      group _ _ _ (this b) (b .pre .1 .0 .0) (same (b .args .r) .depth-is) (b .pre .1 .0 .1) (b .pre .1 .1 .valid)
+      (is-group (b .args .r) (e .before .if1 .taken))
 
   header-fits : (e : Grouped) → header e ≤ length (output (entry e))
   header-fits e = omega (arith, this-group e, e .header-size .ensures, entry e .pre .1 .1)
 
   -- its members are put, and the output is as long as before
-  members-put : (c : emit-avp-lts.After-emit-run (emit-avp-calls t) (emit-avp-at t) emit-avp.Post)
-      → let e = c .before .before .before .before in
+  members-put : (c : Members)
+      → let e = this-one c in
       let b = entry e in
       Done (members b) (pool b) (c .emit-run .result) (drop (header e) (output b)) (c .emit-run .last .1 .1 .1 .0)
   members-put c =
-      let e = c .before .before .before .before in
+      let e = this-one c in
       let b = entry e in
       rw (rest (table b) recordSize (b .pre .1 .0 .1), rest (output b) (header e) (header-fits e)) at (c .emit-run .ensures)
 
-  length-back : (c : emit-avp-lts.After-emit-run (emit-avp-calls t) (emit-avp-at t) emit-avp.Post)
-      → let e = c .before .before .before .before in
+  length-back : (c : Members)
+      → let e = this-one c in
       let out = output (entry e) in
       length (putMid (header e) (length out - header e) out (c .emit-run .last .1 .1 .1 .0)) ≡ length out
   length-back c =
-      let e = c .before .before .before .before in
+      let e = this-one c in
       let out = output (entry e) in
       same-len-mid (header e) (length out - header e) out (c .emit-run .last .1 .1 .1 .0) (c .emit-run .kept .1 .1 .1 .0)
 
   -- so the sums fit
-  record Sums (c : emit-avp-lts.After-emit-run (emit-avp-calls t) (emit-avp-at t) emit-avp.Post) : Type 0 where
-    pub length-fits : header (c .before .before .before .before) + c .emit-run .result .size < 16777216
+  record Sums (c : Members) : Type 0 where
+    pub length-fits : header (this-one c) + c .emit-run .result .size < 16777216
     pub count-fits : 1 + c .emit-run .result .records < 2 ^ 64
 
-  sums : (c : emit-avp-lts.After-emit-run (emit-avp-calls t) (emit-avp-at t) emit-avp.Post) → Sums c
+  sums : (c : Members) → Sums c
   sums c =
-      let e = c .before .before .before .before in
+      let e = this-one c in
       let b = entry e in
       let g = this-group e in
       let d = members-put c in
@@ -146,7 +153,8 @@ module _ (t : ℕ) where
   this-single : (c : emit-avp-lts.Else1 (emit-avp-calls t) (emit-avp-at t) emit-avp.Post) → let b = c .before .before .before .before .before in Single (pool b) (table b) (this b)
   this-single c =
       let b = c .before .before .before .before .before in
-      single _ (b .args .r .depth) _ (this b) (b .pre .1 .0 .0) (same (b .args .r) .depth-is) (b .pre .1 .0 .1) (b .pre .1 .1 .valid) (no-group (b .args .r) (c .if1 .left))
+      single _ (b .args .r .depth) _ (this b) (b .pre .1 .0 .0) (same (b .args .r) .depth-is) (b .pre .1 .0 .1) (b .pre .1 .1 .valid)
+      (no-group (b .args .r) (c .if1 .left))
 
   emit-avp-emit-run-requires : emit-avp-lts.Need-emit-run-requires (emit-avp-calls t) (emit-avp-at t) emit-avp.Post
   emit-avp-emit-run-requires c κs =
@@ -163,7 +171,7 @@ module _ (t : ℕ) where
   emit-avp-put-head-requires : emit-avp-lts.Need-put-head-requires (emit-avp-calls t) (emit-avp-at t) emit-avp.Post
   emit-avp-put-head-requires c κs =
       let m = c .before .before .before .before in
-      let e = m .before .before .before .before in
+      let e = this-one m in
       let l = length-back m in
       let f = header-fits e in
       (omega (arith, e .header-size .ensures), omega (arith, e .header-size .ensures, head-low (this (entry e))))
@@ -171,8 +179,9 @@ module _ (t : ℕ) where
   emit-avp-returns : emit-avp-lts.Need-returns (emit-avp-calls t) (emit-avp-at t) emit-avp.Post
   emit-avp-returns c =
       let m = c .before .before .before .before .before .before .before .before in
-      let e = m .before .before .before .before in
-      group-done _ _ _ (this (entry e)) (this-group e) _ _ _ _ (header e) _ (e .header-size .ensures) (header-fits e) refl (members-put m) (c .before .before .before .put-head .ensures)
+      let e = this-one m in
+      group-done _ _ _ (this (entry e)) (this-group e) _ _ _ _ (header e) _ (e .header-size .ensures) (header-fits e) refl
+      (members-put m) (c .before .before .before .put-head .ensures)
 
   emit-avp-emit-leaf-requires : emit-avp-lts.Need-emit-leaf-requires (emit-avp-calls t) (emit-avp-at t) emit-avp.Post
   emit-avp-emit-leaf-requires c κs =
@@ -180,7 +189,9 @@ module _ (t : ℕ) where
       record { leaf = g .leaf; fits = omega (arith, c .before .before .before .before .before .before .pre .1 .1) }
 
   emit-avp-returns-2 : emit-avp-lts.Need-returns-2 (emit-avp-calls t) (emit-avp-at t) emit-avp.Post
-  emit-avp-returns-2 c = single-done _ _ (this (c .before .before .before .before .before .before .before .before .before)) (this-single (c .before .before .before .before)) _ _ _ (c .before .before .emit-leaf .ensures)
+  emit-avp-returns-2 c =
+      let b = c .before .before .before .before .before .before .before .before .before in
+      single-done _ _ (this b) (this-single (c .before .before .before .before)) _ _ _ (c .before .before .emit-leaf .ensures)
 
 -- ---- `emit_run`
 
@@ -197,7 +208,7 @@ abbrev emit-run-μ-loop : emit-run-lts.MeasureT-loop
 emit-run-μ-loop table pool depth out₀ records₀ size₀ out records size = length table - records * recordSize
 
 module _ (t : ℕ) where
-  -- the head of the loop, and a record at the run's own depth
+  -- the function's entry, the head of the loop; a record that was read, one at the run's own depth, and one that is put
   abbrev Start : Type 0
   Start = emit-run-lts.Start (emit-run-calls t) (emit-run-at t) emit-run.Post emit-run-Inv-loop emit-run-μ-loop
 
@@ -206,6 +217,12 @@ module _ (t : ℕ) where
 
   abbrev Found : Type 0
   Found = emit-run-lts.Else1 (emit-run-calls t) (emit-run-at t) emit-run.Post emit-run-Inv-loop emit-run-μ-loop
+
+  abbrev Read : Type 0
+  Read = emit-run-lts.After-get (emit-run-calls t) (emit-run-at t) emit-run.Post emit-run-Inv-loop emit-run-μ-loop
+
+  abbrev One : Type 0
+  One = emit-run-lts.After-emit-avp (emit-run-calls t) (emit-run-at t) emit-run.Post emit-run-Inv-loop emit-run-μ-loop
 
   abbrev start : Loop → Start
   start l = l .before .before .before .before
@@ -232,23 +249,24 @@ module _ (t : ℕ) where
   size-within : (l : Loop) → l .loop .size ≤ length (l .loop .out)
   size-within l = omega (arith, room-left l, start l .pre .1)
 
-  record-read : (c : emit-run-lts.After-get (emit-run-calls t) (emit-run-at t) emit-run.Post emit-run-Inv-loop emit-run-μ-loop) → let l = c .before .before .before in recordAs (c .get .result) ≡ recordAt (left-of l)
+  record-read : (c : Read) → let l = c .before .before .before in recordAs (c .get .result) ≡ recordAt (left-of l)
   record-read c = let l = c .before .before .before in rw (rest (whole l) (l .loop .records * recordSize) (l .loop .inv .0)) at (c .get .ensures)
 
-  depth-read : (c : emit-run-lts.After-get (emit-run-calls t) (emit-run-at t) emit-run.Post emit-run-Inv-loop emit-run-μ-loop) → let l = c .before .before .before in recordAt (left-of l) .depth ≡ c .get .result .depth
+  depth-read : (c : Read) → let l = c .before .before .before in recordAt (left-of l) .depth ≡ c .get .result .depth
   depth-read c = ap (λ (r : rfc.Record). r .depth) (sym (record-read c)) ∙ same (c .get .result) .depth-is
 
   deep-enough : (c : Found) → let l = loop c in start l .args .depth ≤ recordAt (left-of l) .depth
   deep-enough c = omega (arith, depth-read (c .before .before))
 
-  one-done : (c : emit-run-lts.After-emit-avp (emit-run-calls t) (emit-run-at t) emit-run.Post emit-run-Inv-loop emit-run-μ-loop)
+  one-done : (c : One)
       → let l = loop (c .before .before .before) in
       Done (one (left-of l)) (bytes-from l) (c .emit-avp .result) (drop (l .loop .size) (l .loop .out)) (c .emit-avp .last .1 .1 .1 .0)
   one-done c =
       let l = loop (c .before .before .before) in
-      rw (rest (whole l) (l .loop .records * recordSize) (l .loop .inv .0), rest (l .loop .out) (l .loop .size) (size-within l)) at (c .emit-avp .ensures)
+      rw (rest (whole l) (l .loop .records * recordSize) (l .loop .inv .0), rest (l .loop .out) (l .loop .size) (size-within l))
+      at (c .emit-avp .ensures)
 
-  gone-on : (c : emit-run-lts.After-emit-avp (emit-run-calls t) (emit-run-at t) emit-run.Post emit-run-Inv-loop emit-run-μ-loop)
+  gone-on : (c : One)
       → let l = loop (c .before .before .before) in
       Further (whole l) (l .loop .records) (l .loop .size) (c .emit-avp .result) (length (forestBytes (bytes-from l) (all l)))
   gone-on c =
@@ -256,11 +274,12 @@ module _ (t : ℕ) where
       let l = loop f in
       further _ _ _ _ _ _ _ _ (omega arith) (deep-enough f) (l .loop .inv .2) _ _ (one-done c) (start l .pre .1 .fits)
 
-  going : (c : emit-run-lts.After-emit-avp (emit-run-calls t) (emit-run-at t) emit-run.Post emit-run-Inv-loop emit-run-μ-loop)
+  going : (c : One)
       → let l = loop (c .before .before .before) in
       let w = c .emit-avp .result in
       let n = l .loop .records + w .records in
-      Going (bytes-from l) (start l .args .depth) (all l) (drop (n * recordSize) (whole l)) n (l .loop .size + w .size) (now (start l .args .out))
+      Going (bytes-from l) (start l .args .depth) (all l) (drop (n * recordSize) (whole l)) n (l .loop .size + w .size)
+      (now (start l .args .out))
       (putMid (l .loop .size) (length (l .loop .out) - l .loop .size) (l .loop .out) (c .emit-avp .last .1 .1 .1 .0))
   going c =
       let f = c .before .before .before in
@@ -346,8 +365,8 @@ pub +emit-avp+emit-run-spec : {M : Type 1} → statement M
     (λ c. size-within t (loop t (c .before)))
     (λ c. search needs)
     (emit-run-emit-avp-requires t)
-    (λ c. omega (arith, gone-on t (c .before .before .before), c .before .before .before .before .before .before .before .before .before .before .before .before .before .before .before .good))
-    (λ c. omega (arith, gone-on t (c .before .before .before .before), c .before .before .before .before .before .before .before .before .before .before .before .before .before .before .before .before .pre .1))
+    (λ c. omega (arith, gone-on t (c .before .before .before), start t (loop t (c .before .before .before .before .before .before)) .good))
+    (λ c. omega (arith, gone-on t (c .before .before .before .before), start t (loop t (c .before .before .before .before .before .before .before)) .pre .1))
     (λ c. omega (arith, gone-on t (c .before .before .before .before)))
     (emit-run-loop-again t)
     (λ c. search needs)

@@ -80,10 +80,12 @@ module _ (t : ℕ) where
   abbrev members : Entry → Forest
   members b = run (b .args .r .depth + 1) (drop recordSize (table b))
 
-  group-inside : (c : size-avp-lts.After-header-size (size-avp-calls t) (size-avp-at t) size-avp.Post) → let b = c .before .before .before .before in (left : ℕ) → left ≤ b .args .left → Inside (b .args .r .depth) (table b) (this b) left
-  group-inside c left =
+  group-inside : (c : size-avp-lts.After-header-size (size-avp-calls t) (size-avp-at t) size-avp.Post)
+      → let b = c .before .before .before .before in (left : ℕ) → left ≤ b .args .left → Inside (b .args .r .depth) (table b) (this b) left
+  group-inside c =
       let b = c .before .before .before .before in
-      inside _ _ (this b) _ (b .pre .1 .0 .0) (same (b .args .r) .depth-is) (b .pre .1 .0 .1) (b .pre .1 .1) (is-group (b .args .r) (c .before .if1 .taken)) left
+      inside _ _ (this b) _ (b .pre .1 .0 .0) (same (b .args .r) .depth-is) (b .pre .1 .0 .1) (b .pre .1 .1)
+      (is-group (b .args .r) (c .before .if1 .taken))
 
   -- with what is left after its header
   members-inside : (e : Group) → let b = entry e in Inside (b .args .r .depth) (table b) (this b) (b .args .left - header e)
@@ -104,7 +106,8 @@ module _ (t : ℕ) where
   one-alone : (c : size-avp-lts.Else1 (size-avp-calls t) (size-avp-at t) size-avp.Post) → let b = c .before .before .before in Alone (table b) (this b)
   one-alone c =
       let b = c .before .before .before in
-      alone _ _ (this b) _ (b .pre .1 .0 .0) (same (b .args .r) .depth-is) (b .pre .1 .0 .1) (b .pre .1 .1) (no-group (b .args .r) (c .if1 .left))
+      alone _ _ (this b) _ (b .pre .1 .0 .0) (same (b .args .r) .depth-is) (b .pre .1 .0 .1) (b .pre .1 .1)
+      (no-group (b .args .r) (c .if1 .left))
 
   size-avp-returns : size-avp-lts.Need-returns (size-avp-calls t) (size-avp-at t) size-avp.Post
   size-avp-returns c = is-over _ _ (omega (arith, group-inside (c .before) 0 (omega arith), c .before .header-size .ensures))
@@ -113,7 +116,8 @@ module _ (t : ℕ) where
   size-avp-size-run-requires c κs =
       let e = c .before .before in
       let b = entry e in
-      rw (rest (table b) recordSize (b .pre .1 .0 .1)) (omega (arith, b .pre, length-drop recordSize (table b)), members-inside e .orderly)
+      rw (rest (table b) recordSize (b .pre .1 .0 .1))
+      (omega (arith, b .pre, length-drop recordSize (table b)), members-inside e .orderly)
 
   size-avp-returns-2 : size-avp-lts.Need-returns-2 (size-avp-calls t) (size-avp-at t) size-avp.Post
   size-avp-returns-2 c =
@@ -151,12 +155,18 @@ abbrev size-run-μ-loop : size-run-lts.MeasureT-loop
 size-run-μ-loop table depth left records₀ size₀ records size = length table - records * recordSize
 
 module _ (t : ℕ) where
-  -- the head of the loop, and a record at the run's own depth
+  -- the head of the loop; a record that was read, one at the run's own depth, and one whose size is known
   abbrev Loop : Type 0
   Loop = size-run-lts.At-loop (size-run-calls t) (size-run-at t) size-run.Post size-run-Inv-loop size-run-μ-loop
 
   abbrev Found : Type 0
   Found = size-run-lts.Else1 (size-run-calls t) (size-run-at t) size-run.Post size-run-Inv-loop size-run-μ-loop
+
+  abbrev Read : Type 0
+  Read = size-run-lts.After-get (size-run-calls t) (size-run-at t) size-run.Post size-run-Inv-loop size-run-μ-loop
+
+  abbrev Sized : Type 0
+  Sized = size-run-lts.After-known-told (size-run-calls t) (size-run-at t) size-run.Post size-run-Inv-loop size-run-μ-loop
 
   abbrev loop : Found → Loop
   loop c = c .before .before .before .before .before
@@ -168,10 +178,10 @@ module _ (t : ℕ) where
   abbrev left-of : Loop → List ℕ
   left-of l = drop (l .loop .records * recordSize) (whole l)
 
-  record-read : (c : size-run-lts.After-get (size-run-calls t) (size-run-at t) size-run.Post size-run-Inv-loop size-run-μ-loop) → let l = c .before .before .before in recordAs (c .get .result) ≡ recordAt (left-of l)
+  record-read : (c : Read) → let l = c .before .before .before in recordAs (c .get .result) ≡ recordAt (left-of l)
   record-read c = let l = c .before .before .before in rw (rest (whole l) (l .loop .records * recordSize) (l .loop .inv .0)) at (c .get .ensures)
 
-  depth-read : (c : size-run-lts.After-get (size-run-calls t) (size-run-at t) size-run.Post size-run-Inv-loop size-run-μ-loop) → let l = c .before .before .before in recordAt (left-of l) .depth ≡ c .get .result .depth
+  depth-read : (c : Read) → let l = c .before .before .before in recordAt (left-of l) .depth ≡ c .get .result .depth
   depth-read c = ap (λ (r : rfc.Record). r .depth) (sym (record-read c)) ∙ same (c .get .result) .depth-is
 
   deep-enough : (c : Found) → let l = loop c in l .before .before .args .depth ≤ recordAt (left-of l) .depth
@@ -184,21 +194,22 @@ module _ (t : ℕ) where
       let l = loop (c .before .before) in
       rw (rest (whole l) (l .loop .records * recordSize) (l .loop .inv .0)) at (c .size-avp .ensures)
 
-  one-known : (c : size-run-lts.After-known-told (size-run-calls t) (size-run-at t) size-run.Post size-run-Inv-loop size-run-μ-loop)
+  one-known : (c : Sized)
       → let l = loop (c .before .before .before .before .before) in
       Known (l .before .before .args .left - l .loop .size) (one (left-of l)) (c .before .n .given .0 .0) (c .before .n .given .0 .1 .0)
   one-known c = was-size _ _ _ _ (sym (c .before .n .given .1) ∙ one-sized (c .before .before .before))
 
-  passed : (c : size-run-lts.After-known-told (size-run-calls t) (size-run-at t) size-run.Post size-run-Inv-loop size-run-μ-loop)
+  passed : (c : Sized)
       → let l = loop (c .before .before .before .before .before) in
       let b = l .before .before in
       let n = l .loop .records + c .before .n .given .0 .0 in
-      Passed (b .args .depth) (run (b .args .depth) (whole l)) (drop (n * recordSize) (whole l)) (b .args .left) n (l .loop .size + c .before .n .given .0 .1 .0)
+      Passed (b .args .depth) (run (b .args .depth) (whole l)) (drop (n * recordSize) (whole l)) (b .args .left) n
+      (l .loop .size + c .before .n .given .0 .1 .0)
   passed c =
       let f = c .before .before .before .before .before in
       one-passed _ _ _ _ _ _ (omega arith) (deep-enough f) (loop f .loop .inv .1) _ _ (one-known c)
 
-  gone-on : (c : size-run-lts.After-known-told (size-run-calls t) (size-run-at t) size-run.Post size-run-Inv-loop size-run-μ-loop)
+  gone-on : (c : Sized)
       → let l = loop (c .before .before .before .before .before) in Further (whole l) (l .loop .records) (c .before .n .given .0 .0)
   gone-on c =
       let f = c .before .before .before .before .before in
@@ -225,7 +236,8 @@ module _ (t : ℕ) where
   size-run-returns-2 : size-run-lts.Need-returns-2 (size-run-calls t) (size-run-at t) size-run.Post size-run-Inv-loop size-run-μ-loop
   size-run-returns-2 c =
       let f = c .before .before .before .before in
-      then-over _ _ _ _ _ _ (omega arith) (deep-enough f) (loop f .loop .inv .1) (was-over _ _ (sym (c .enum-told .given .1) ∙ one-sized (c .before .before)))
+      then-over _ _ _ _ _ _ (omega arith) (deep-enough f) (loop f .loop .inv .1)
+      (was-over _ _ (sym (c .enum-told .given .1) ∙ one-sized (c .before .before)))
 
   size-run-returns-3 : size-run-lts.Need-returns-3 (size-run-calls t) (size-run-at t) size-run.Post size-run-Inv-loop size-run-μ-loop
   size-run-returns-3 c =
@@ -253,8 +265,8 @@ pub +size-avp+size-run-spec : {M : Type 1} → statement M
     (λ c. search needs)
     (λ c. search needs)
     (size-avp-returns-2 t)
-    (λ c. omega (arith, members-inside t (c .before .before .before .before .before .before), members-known t c, c .before .before .before .before .before .before .before .before .before .before .before .good))
-    (λ c. omega (arith, members-known t c, c .before .before .before .before .before .before .before .before .before .before .before .pre .1 .1))
+    (λ c. omega (arith, members-inside t (c .before .before .before .before .before .before), members-known t c, entry t (c .before .before .before .before .before .before) .good))
+    (λ c. omega (arith, members-known t c, entry t (c .before .before .before .before .before .before) .pre .1 .1))
     (size-avp-returns-3 t)
     (λ c. search needs)
     (λ c. search needs)
@@ -284,8 +296,8 @@ pub +size-avp+size-run-spec : {M : Type 1} → statement M
     (λ c. search needs)
     (λ c. search needs)
     (size-run-returns-2 t)
-    (λ c. omega (arith, gone-on t c, c .before .before .before .before .before .before .before .before .before .before .before .before .good))
-    (λ c. omega (arith, passed t c, c .before .before .before .before .before .before .before .before .before .before .before .before .pre .1))
+    (λ c. omega (arith, gone-on t c, loop t (c .before .before .before .before .before) .before .before .good))
+    (λ c. omega (arith, passed t c, loop t (c .before .before .before .before .before) .before .before .pre .1))
     (λ c. omega (arith, gone-on t c))
     (λ c. (gone-on t c .fits, passed t c))
     (size-run-returns-3 t))

@@ -90,7 +90,7 @@ keepers-spec =
     (λ c κs. search needs)
     returns
     allowed-after-requires
-    (λ c. omega (arith, c .before .before .before .before .before .before .loop .inv .0, c .before .before .before .before .before .before .before .before .good))
+    (λ c. omega (arith, loop (c .before .before .before) .loop .inv .0, loop (c .before .before .before) .before .before .good))
     (λ c. omega arith)
     loop-again
     returns-2)

@@ -9,6 +9,10 @@ use Rattle.writer.proofs.Checks.{no-depth, too-deep, not-allowed, no-ki
 use Rattle.writer.proofs.keeps.Statement.{statement}
 use Rattle.writer.proofs.keeps.Tie as tie
 
+-- past the tests of depth and kind
+abbrev start : tie.After-keeps-vendor → tie.Start
+start c = c .before .before .before .before .before .before .before .before .before
+
 returns : tie.Need-returns
 unfolding recordAs
 returns c = no-depth _ _ (recordAs (c .before .before .args .r)) (omega arith)
@@ -23,30 +27,33 @@ returns-3 c = not-allowed _ _ (recordAs (c .before .before .before .before .befo
 
 returns-4 : tie.Need-returns-4
 unfolding recordAs
-returns-4 c = no-kind _ _ (recordAs (c .before .before .before .before .before .before .before .before .args .r)) (omega arith) (omega arith) (omega arith) (omega arith)
+returns-4 c =
+    let b = c .before .before .before .before .before .before .before .before in
+    no-kind _ _ (recordAs (b .args .r)) (omega arith) (omega arith) (omega arith) (omega arith)
 
 returns-5 : tie.Need-returns-5
 unfolding recordAs
 returns-5 c =
     let asked = c .before in
-    let start = asked .before .before .before .before .before .before .before .before .before in
-    other-vendor _ (start .args .available) (recordAs (start .args .r)) (omega arith) (omega arith) (omega arith) (omega arith) _ (asked .keeps-vendor .ensures) (c .if5 .taken)
+    let b = start asked in
+    other-vendor _ (b .args .available) (recordAs (b .args .r)) (omega arith) (omega arith) (omega arith) (omega arith) _
+    (asked .keeps-vendor .ensures) (c .if5 .taken)
 
 returns-6 : tie.Need-returns-6
 unfolding recordAs
 returns-6 c =
     let asked = c .before .before .before .before in
-    let start = asked .before .before .before .before .before .before .before .before .before in
-    then-group _ (start .args .available) (recordAs (start .args .r)) (omega arith) (omega arith) (omega arith) (omega arith) _ (asked .keeps-vendor .ensures) (c .before .before .before .if5 .left) _
-    (is-group (start .args .r) (c .before .if6 .taken)) (c .keeps-group .ensures)
+    let b = start asked in
+    then-group _ (b .args .available) (recordAs (b .args .r)) (omega arith) (omega arith) (omega arith) (omega arith) _
+    (asked .keeps-vendor .ensures) (c .before .before .before .if5 .left) _ (is-group (b .args .r) (c .before .if6 .taken)) (c .keeps-group .ensures)
 
 returns-7 : tie.Need-returns-7
 unfolding recordAs
 returns-7 c =
     let asked = c .before .before .before .before in
-    let start = asked .before .before .before .before .before .before .before .before .before in
-    then-leaf _ (start .args .available) (recordAs (start .args .r)) (omega arith) (omega arith) (omega arith) (omega arith) _ (asked .keeps-vendor .ensures) (c .before .before .before .if5 .left) _
-    (no-group (start .args .r) (c .before .if6 .left)) (c .keeps-leaf .ensures)
+    let b = start asked in
+    then-leaf _ (b .args .available) (recordAs (b .args .r)) (omega arith) (omega arith) (omega arith) (omega arith) _
+    (asked .keeps-vendor .ensures) (c .before .before .before .if5 .left) _ (no-group (b .args .r) (c .before .if6 .left)) (c .keeps-leaf .ensures)
 
 pub keeps-spec : {M : Type 1} → statement M
 keeps-spec =

@@ -59,7 +59,9 @@ returns c = (bad-header (fields (c .before .before .before .before .before)) _ _
 
 returns-2 : tie.Need-returns-2
 unfolding answerOf output fieldsAs
-returns-2 c = (bad-record (fields (c .before .before .before .before .before .before .before)) _ _ _ (omega arith) _ (c .before .keepers .ensures) (omega arith), refl)
+returns-2 c =
+    let b = c .before .before .before .before .before .before .before in
+    (bad-record (fields b) _ _ _ (omega arith) _ (c .before .keepers .ensures) (omega arith), refl)
 
 returns-3 : tie.Need-returns-3
 unfolding answerOf output fieldsAs
