@@ -1,10 +1,10 @@
 """A model of document 01, written from its text and from RFC 6733 and RFC 3629, not from our code.
 
 It answers a case as document 01 says: message, header alone or one AVP alone, in either reading, or a table to be written. It is slow and plain on
-purpose. The frames that crates/replay reads and the answers that it must write are made with it:
+purpose. `oracle/run replay` makes with it frames that crates/replay reads and answers that it must write:
 
-    python3 oracle/model.py frames < oracle/cases.txt > crates/replay/stdin
-    python3 oracle/model.py answers < oracle/cases.txt > crates/replay/stdout
+    python3 oracle/model.py frames < oracle/cases.txt
+    python3 oracle/model.py answers < oracle/cases.txt
 
 A frame: function (0 message, 1 header alone, 2 one AVP, 3 a table to be written), reading (0 sawp, 1 RFC) and depth limit in a byte each, room in
 records in 2 bytes, length in 4, and the bytes. An answer: the number in a byte and the amount in 4; where the number is 0, the

@@ -5,6 +5,7 @@ use beside::cases::{Case, Cases, SORTS};
 use beside::frame::CAPACITY_MAX;
 use beside::{marked, wire, with_stack};
 use sawp_diameter::diameter::inside::RECORD;
+use std::collections::HashMap;
 use std::io::{BufReader, BufWriter, Read, Write};
 use std::path::PathBuf;
 use std::process::{Command, ExitCode, Stdio};
@@ -17,6 +18,7 @@ const USAGE: &str = "usage:
   oracle frame SORT NUMBER      a case as a frame, for a program
   oracle answer SORT NUMBER     its answer, as a program should write it
   oracle inputs FOLDER          the messages that instructions are counted for
+  oracle sample FOLDER          a few cases of each sort, answer and flags: FOLDER/frames and FOLDER/answers
   oracle compare -- PROGRAM...  all cases against a program that answers frames
 options, before `--`:
   --seed N (1)   --scale N (1)  so many times the random cases   --real FOLDER  real messages, *.bin
@@ -68,6 +70,10 @@ fn main() -> ExitCode {
                 std::fs::write(format!("{folder}/{name}.bin"), &bytes).expect("FOLDER can be written");
                 println!("{name}.bin {} bytes", bytes.len());
             }
+            ExitCode::SUCCESS
+        }
+        ["sample", folder] => {
+            with_stack(|| sample(&cases, &options, folder)).expect("FOLDER can be written");
             ExitCode::SUCCESS
         }
         ["compare"] if !options.program.is_empty() => compare(&cases, &options),
@@ -131,6 +137,34 @@ fn sort_named(name: &str) -> Result<&'static str, String> {
 
 fn put(bytes: &[u8]) {
     std::io::stdout().write_all(bytes).expect("standard output");
+}
+
+// ---- a sample
+
+/// So many cases of each sort, answer and flags are in a sample, and one alone where the input is long.
+const SAMPLED: usize = 16;
+const LONG: usize = 1_000;
+
+fn sample(cases: &Cases, options: &Options, folder: &str) -> std::io::Result<()> {
+    let mut taken: HashMap<(&str, u8, u8), usize> = HashMap::new();
+    let (mut frames, mut answers) = (Vec::new(), Vec::new());
+    for &sort in &options.sorts {
+        for number in (0..cases.count(sort)).step_by(options.every as usize) {
+            let case = cases.case(sort, number);
+            let flags = case.answer.accepted.as_ref().map_or(0, |a| a.flags);
+            let n = taken.entry((sort, case.answer.number, flags)).or_default();
+            let most = if case.frame.bytes.len() > LONG { 1 } else { SAMPLED };
+            if *n < most && case.frame.capacity as u64 <= options.room {
+                *n += 1;
+                frames.extend(case.frame.to_bytes());
+                answers.extend(case.answer.to_bytes());
+            }
+        }
+    }
+    std::fs::write(format!("{folder}/frames"), frames)?;
+    std::fs::write(format!("{folder}/answers"), answers)?;
+    println!("{} cases", taken.values().sum::<usize>());
+    Ok(())
 }
 
 // ---- one case
