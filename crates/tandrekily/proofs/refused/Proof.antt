@@ -1,0 +1,14 @@
+-- `refused` meets its contract: a refusal lays out its number and its amount over zeros.
+-- Assumes nothing.
+use borrow.Author.Needs.{needs}
+use Rattle.header.specs.Parsed.{headerAs}
+use Rattle.diameter.specs.Answers.{oneAs}
+use Rattle.tandrekily.proofs.refused.Statement.{statement}
+use Rattle.tandrekily.proofs.refused.Tie as tie
+
+returns : tie.Need-returns
+unfolding headerAs oneAs
+returns c = c .lay .ensures
+
+pub refused-spec : {M : Type 1} → statement M
+refused-spec = tie.close (tie.spec (λ c κs. search needs) returns)

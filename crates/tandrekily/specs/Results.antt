@@ -1,0 +1,62 @@
+-- A result as numbers: the answer's number and amount, then what an acceptance returns (document 01, "Numbers returned"). What an
+-- answer does not return is 0.
+-- Assumes nothing: these are definitions.
+use Prim.Native.Nat.{ℕ}
+use mathlib.Core.Bool.{Bool, true, false}
+use mathlib.Core.List.{List, [], _∷_}
+use Rattle.rfc6733.specs.Answer.{Answer, accepted, refused}
+use Rattle.rfc6733.specs.Header.{Header}
+use Rattle.rfc6733.specs.Decoder.{Counts, Message}
+use Rattle.rfc6733.specs.Writer.{Fields}
+use Rattle.attribute.specs.declared.Reading.{Reading}
+use Rattle.attribute.specs.declared.Reading.the-variants.{Sawp, Rfc}
+
+unfoldable pub readingOf : Bool → Reading
+readingOf true = Rfc
+readingOf false = Sawp
+
+unfoldable pub fieldsOf : ℕ → ℕ → ℕ → ℕ → ℕ → Fields
+fieldsOf f c a h e = record { flags = f; code = c; appId = a; hopId = h; endId = e }
+
+-- number, amount; flags, records, tried, length; the header's fields
+abbrev pub result : ℕ → ℕ → Counts → Header → List ℕ
+result n a c h =
+    n
+    ∷ a
+    ∷ c .flags
+    ∷ c .records
+    ∷ c .tried
+    ∷ c .length
+    ∷ h .version
+    ∷ h .length
+    ∷ h .flags
+    ∷ h .code
+    ∷ h .appId
+    ∷ h .hopId
+    ∷ h .endId
+    ∷ []
+
+-- so many bytes, and nothing else
+abbrev pub bytesAlone : ℕ → Counts
+bytesAlone n = record { flags = 0; records = 0; tried = 0; length = n }
+
+abbrev pub noHeader : Header
+noHeader = record { version = 0; length = 0; flags = 0; code = 0; appId = 0; hopId = 0; endId = 0 }
+
+abbrev pub refusal : ℕ → ℕ → List ℕ
+refusal n a = result n a (bytesAlone 0) noHeader
+
+-- a message, or the header alone
+unfoldable pub messageResult : Answer Message → List ℕ
+messageResult (accepted m) = result 0 0 (m .counts) (m .header)
+messageResult (refused n a) = refusal n a
+
+-- one AVP alone
+unfoldable pub avpResult : Answer Counts → List ℕ
+avpResult (accepted c) = result 0 0 c noHeader
+avpResult (refused n a) = refusal n a
+
+-- what the writer wrote: its total is the length
+unfoldable pub writtenResult : Answer ℕ → List ℕ
+writtenResult (accepted total) = result 0 0 (bytesAlone total) noHeader
+writtenResult (refused n a) = refusal n a

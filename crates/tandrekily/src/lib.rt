@@ -1,0 +1,230 @@
+// The library for C and Rust: each public way to decode and to write, over numbers and byte slices, by the C calling convention.
+// This crate knows how an answer is laid out as numbers, and nothing of how it comes about.
+use attribute::Reading;
+use diameter::Decoded;
+use diameter::DecodedAvp;
+use diameter::One;
+use header::Header;
+use header::Parsed;
+use writer::Fields;
+use writer::Written;
+ghost use mathlib.Core.Path.{_≡_};
+ghost use lib.ListN.{length};
+ghost use Rattle.rfc3629.specs.Utf8.{wellFormed};
+ghost use Rattle.rfc6733.specs.Decoder.{capacity, decoded, messageRecords, avpAlone, aloneRecords, headerAlone, stored};
+ghost use Rattle.rfc6733.specs.Signed.{unixSeconds};
+ghost use Rattle.rfc6733.specs.Writer.{written, tableBytes, output};
+ghost use Rattle.attribute.specs.Attributes.{dictionary};
+ghost use Rattle.header.specs.Parsed as header;
+ghost use Rattle.header.specs.Parsed.{headerAs};
+ghost use Rattle.diameter.specs.Answers.{oneAs, answerOf, avpAnswerOf};
+ghost use Rattle.writer.specs.Answers as writer;
+ghost use Rattle.tandrekily.specs.Results.{readingOf, fieldsOf, result, refusal, messageResult, avpResult, writtenResult};
+
+/// How many numbers a result has. include/tandrekily.h names them.
+pub const RESULT: usize = 13;
+
+const NO_COUNTS: One = One {
+    flags: 0,
+    records: 0,
+    tried: 0,
+    length: 0,
+};
+
+const NO_HEADER: Header = Header {
+    version: 0,
+    length: 0,
+    flags: 0,
+    code: 0,
+    app_id: 0,
+    hop_id: 0,
+    end_id: 0,
+};
+
+fn reading_of(rfc: bool) -> Reading
+    ensures { λ r. ⌜ r ≡ readingOf rfc ⌝ }
+{
+    if rfc { Reading::Rfc } else { Reading::Sawp }
+}
+
+fn lay(number: u64, amount: usize, counts: One, header: Header) -> [u64; RESULT]
+    ensures { λ r. ⌜ r ≡ result number amount (oneAs counts) (headerAs header) ⌝ }
+{
+    [
+        number,
+        amount as u64,
+        counts.flags as u64,
+        counts.records as u64,
+        counts.tried as u64,
+        counts.length as u64,
+        header.version as u64,
+        header.length as u64,
+        header.flags as u64,
+        header.code as u64,
+        header.app_id as u64,
+        header.hop_id as u64,
+        header.end_id as u64,
+    ]
+}
+
+fn refused(number: u64, amount: usize) -> [u64; RESULT]
+    ensures { λ r. ⌜ r ≡ refusal number amount ⌝ }
+{
+    lay(number, amount, NO_COUNTS, NO_HEADER)
+}
+
+fn of_message(d: Decoded) -> [u64; RESULT]
+    ensures { λ r. ⌜ r ≡ messageResult (answerOf d) ⌝ }
+{
+    match d {
+        Decoded::Accepted(m) => {
+            let header = m.header;
+            let counts = One {
+                flags: m.flags,
+                records: m.records,
+                tried: m.tried,
+                length: m.length,
+            };
+            lay(0, 0, counts, header)
+        }
+        Decoded::Incomplete(n) => refused(1, n),
+        Decoded::NotVersion => refused(2, 0),
+        Decoded::BadLength => refused(3, 0),
+        Decoded::NotTiled => refused(4, 0),
+        Decoded::TooDeep => refused(5, 0),
+        Decoded::NoRecords(n) => refused(6, n),
+        Decoded::BadDepth => refused(7, 0),
+    }
+}
+
+fn of_header(p: Parsed) -> [u64; RESULT]
+    ensures { λ r. ⌜ r ≡ messageResult (header.answerOf p) ⌝ }
+{
+    match p {
+        Parsed::Accepted { header, flags } => {
+            let counts = One {
+                flags,
+                records: 0,
+                tried: 0,
+                length: Header::SIZE,
+            };
+            lay(0, 0, counts, header)
+        }
+        Parsed::Incomplete(n) => refused(1, n),
+        Parsed::NotVersion => refused(2, 0),
+        Parsed::BadLength => refused(3, 0),
+    }
+}
+
+fn of_avp(d: DecodedAvp) -> [u64; RESULT]
+    ensures { λ r. ⌜ r ≡ avpResult (avpAnswerOf d) ⌝ }
+{
+    match d {
+        DecodedAvp::Accepted(one) => lay(0, 0, one, NO_HEADER),
+        DecodedAvp::Incomplete(n) => refused(1, n),
+        DecodedAvp::BadLength => refused(3, 0),
+        DecodedAvp::TooDeep => refused(5, 0),
+        DecodedAvp::NoRecords(n) => refused(6, n),
+        DecodedAvp::BadDepth => refused(7, 0),
+    }
+}
+
+fn of_written(w: Written) -> [u64; RESULT]
+    ensures { λ r. ⌜ r ≡ writtenResult (writer.answerOf w) ⌝ }
+{
+    match w {
+        Written::Accepted(total) => {
+            let counts = One {
+                flags: 0,
+                records: 0,
+                tried: 0,
+                length: total,
+            };
+            lay(0, 0, counts, NO_HEADER)
+        }
+        Written::BadHeader => refused(8, 0),
+        Written::BadTable(index) => refused(9, index),
+        Written::TooLong => refused(10, 0),
+        Written::NoRoom(total) => refused(11, total),
+    }
+}
+
+/// Decodes the message at the front of `input` into records in `store`.
+#[no_mangle]
+pub extern "C" fn tandrekily_message(
+    rfc: bool,
+    limit: usize,
+    input: &[u8],
+    store: &mut [u8],
+    result: &mut [u64; RESULT],
+)
+    ensures result { λ _. ⌜ now (result .exit) ≡ messageResult (decoded (dictionary (readingOf rfc)) limit (capacity (length (now (store .entry)))) (now (input .entry))) ⌝ }
+    ensures store { λ _. ⌜ now (store .exit) ≡ stored (decoded (dictionary (readingOf rfc)) limit (capacity (length (now (store .entry)))) (now (input .entry))) (messageRecords (dictionary (readingOf rfc)) (now (input .entry))) (now (store .entry)) ⌝ }
+{
+    *result = of_message(diameter::parse(reading_of(rfc), limit, input, store));
+}
+
+/// Reads the header at the front of `input` alone.
+#[no_mangle]
+pub extern "C" fn tandrekily_header(input: &[u8], result: &mut [u64; RESULT])
+    ensures { λ _. ⌜ now (result .exit) ≡ messageResult (headerAlone (now (input .entry))) ⌝ }
+{
+    *result = of_header(Header::parse(input));
+}
+
+/// Decodes the one AVP at the front of `input`, at depth 1, into records in `store`.
+#[no_mangle]
+pub extern "C" fn tandrekily_avp(
+    rfc: bool,
+    limit: usize,
+    input: &[u8],
+    store: &mut [u8],
+    result: &mut [u64; RESULT],
+)
+    ensures result { λ _. ⌜ now (result .exit) ≡ avpResult (avpAlone (dictionary (readingOf rfc)) limit (capacity (length (now (store .entry)))) (now (input .entry))) ⌝ }
+    ensures store { λ _. ⌜ now (store .exit) ≡ stored (avpAlone (dictionary (readingOf rfc)) limit (capacity (length (now (store .entry)))) (now (input .entry))) (aloneRecords (dictionary (readingOf rfc)) (now (input .entry))) (now (store .entry)) ⌝ }
+{
+    *result = of_avp(diameter::parse_avp(reading_of(rfc), limit, input, store));
+}
+
+/// Writes the message of a table of records, whose data are in `pool`, to the front of `out`.
+#[no_mangle]
+pub extern "C" fn tandrekily_write(
+    flags: u8,
+    code: u32,
+    app_id: u32,
+    hop_id: u32,
+    end_id: u32,
+    table: &[u8],
+    pool: &[u8],
+    out: &mut [u8],
+    result: &mut [u64; RESULT],
+)
+    ensures result { λ _. ⌜ now (result .exit) ≡ writtenResult (written (fieldsOf flags code «app_id» «hop_id» «end_id») (now (table .entry)) (now (pool .entry)) (length (now (out .entry)))) ⌝ }
+    ensures out { λ _. ⌜ now (out .exit) ≡ output (written (fieldsOf flags code «app_id» «hop_id» «end_id») (now (table .entry)) (now (pool .entry)) (length (now (out .entry)))) (tableBytes (fieldsOf flags code «app_id» «hop_id» «end_id») (now (table .entry)) (now (pool .entry))) (now (out .entry)) ⌝ }
+{
+    let fields = Fields {
+        flags,
+        code,
+        app_id,
+        hop_id,
+        end_id,
+    };
+    *result = of_written(writer::write(fields, table, pool, out));
+}
+
+/// Is the text well-formed UTF-8 (RFC 3629)?
+#[no_mangle]
+pub extern "C" fn tandrekily_is_utf8(text: &[u8]) -> bool
+    ensures { λ r. ⌜ r ≡ wellFormed (now (text .entry)) ⌝ }
+{
+    rfc3629::is_utf8(text)
+}
+
+/// A Time of the RFC reading in Unix seconds.
+#[no_mangle]
+pub extern "C" fn tandrekily_unix_seconds(time: u32) -> i64
+    ensures { λ r. ⌜ r ≡ unixSeconds time ⌝ }
+{
+    value::unix_seconds(time)
+}
