@@ -6,18 +6,19 @@ use mathlib.Core.Path.{_≡_, refl}
 use mathlib.Core.List.{List, [], _∷_}
 use native.Mathlib.Omega.{arith}
 use lib.ListN.{getD}
-
--- f at 0, 1 and so on, n values in all
-abbrev pub table : (ℕ → ℕ) → ℕ → List ℕ
-table f zero = []
-table f (suc n) = f 0 ∷ table (λ k. f (suc k)) n
+use Rattle.attribute.specs.Tables.{table}
 
 pub table-entry : (f : ℕ → ℕ) (n k : ℕ) → k < n → getD (table f n) k 0 ≡ f k
 table-entry f zero k h = absurd (omega arith)
 table-entry f (suc n) zero h = refl
 table-entry f (suc n) (suc k) h = table-entry (λ k. f (suc k)) n k (omega arith)
 
-pub same-table : (f g : ℕ → ℕ) (n : ℕ) → table f n ≡ table g n → ((k : ℕ) → n ≤ k → f k ≡ g k) → (k : ℕ) → f k ≡ g k
+pub past-table : (f : ℕ → ℕ) (n k d : ℕ) → n ≤ k → getD (table f n) k d ≡ d
+past-table f zero k d h = refl
+past-table f (suc n) zero d h = absurd (omega arith)
+past-table f (suc n) (suc k) d h = past-table (λ k. f (suc k)) n k d (omega arith)
+
+pub same-table : {A : Type 0} (f g : ℕ → A) (n : ℕ) → table f n ≡ table g n → ((k : ℕ) → n ≤ k → f k ≡ g k) → (k : ℕ) → f k ≡ g k
 same-table f g zero e past k = past k (omega arith)
 same-table f g (suc n) e past zero = cc
 same-table f g (suc n) e past (suc k) =

@@ -8,8 +8,11 @@ use kinds::KINDS;
 use kinds::OCTET_STRING;
 use kinds::UNHANDLED;
 ghost use mathlib.Core.Path.{_≡_};
+ghost use lib.Dec.{eqb};
+ghost use lib.ListN.{getD};
+ghost use Rattle.rfc6733.specs.Value.{unhandled, grouped};
 ghost use Rattle.rfc6733.specs.Dictionary.{kindIn, sawpAvps};
-ghost use Rattle.attribute.specs.Attributes.{dictionary, attributeOf, attributeIn};
+ghost use Rattle.attribute.specs.Attributes.{dictionary, kindTable, kindBy, attributeOf, attributeIn};
 
 // Codes of RFC 6733, section 4.5.
 const CLASS: u32 = 25;
@@ -166,28 +169,64 @@ impl Attribute {
     }
 }
 
-// The kind of a code in the sawp reading, in which the vendor doesn't count.
-fn sawp_kind(code: u32) -> u8
-    ensures { λ r. ⌜ r ≡ kindIn sawpAvps code ⌝ }
+/// The kinds of the codes 0 to 511 in a reading, where no vendor counts.
+pub fn kind_table(reading: Reading) -> [u8; CODES]
+    ensures { λ r. ⌜ r ≡ kindTable reading ⌝ }
 {
-    let at = code as usize;
-    if at < CODES { KINDS[at] } else { UNHANDLED }
+    let mut kinds = KINDS;
+    let Reading::Rfc = reading else {
+        return kinds;
+    };
+    kinds[CLASS as usize] = OCTET_STRING;
+    kinds[SAWP_DESTINATION_REALM as usize] = UNHANDLED;
+    kinds[DESTINATION_REALM as usize] = DIAMETER_IDENTITY;
+    kinds
 }
 
-/// The kind of an AVP by its code and vendor. The vendor is 0 without the vendor bit.
-pub fn kind(reading: Reading, code: u32, vendor: u32) -> u8
-    ensures { λ r. ⌜ r ≡ dictionary reading .kind code vendor ⌝ }
+// The entry of a code in a table of kinds; past it a code is Unhandled.
+fn entry(kinds: &[u8], code: u32) -> u8
+    ensures { λ r. ⌜ r ≡ getD (now (kinds .entry)) code unhandled ⌝ }
+{
+    let at = code as usize;
+    if at < kinds.len() {
+        kinds[at]
+    } else {
+        UNHANDLED
+    }
+}
+
+/// The kind of an AVP by its code and vendor, from the table of its reading. The vendor is 0 without the vendor bit.
+pub fn kind(reading: Reading, kinds: &[u8], code: u32, vendor: u32) -> u8
+    ensures { λ r. ⌜ r ≡ kindBy (now (kinds .entry)) reading code vendor ⌝ }
 {
     let Reading::Rfc = reading else {
-        return sawp_kind(code);
+        return entry(kinds, code);
     };
     if vendor != 0 {
         return UNHANDLED;
     }
+    entry(kinds, code)
+}
+
+// Is the code that of a group? Both readings have the same ones.
+fn group_code(code: u32) -> bool
+    ensures { λ r. ⌜ r ≡ eqb (kindIn sawpAvps code) grouped ⌝ }
+{
     match code {
-        CLASS => OCTET_STRING,
-        SAWP_DESTINATION_REALM => UNHANDLED,
-        DESTINATION_REALM => DIAMETER_IDENTITY,
-        _ => sawp_kind(code),
+        260 | 279 | 284 | 297 => true,
+        _ => false,
     }
+}
+
+/// Is an AVP Grouped, by its code and vendor? A run is counted by this, which takes no table.
+pub fn is_grouped(reading: Reading, code: u32, vendor: u32) -> bool
+    ensures { λ r. ⌜ r ≡ eqb (dictionary reading .kind code vendor) grouped ⌝ }
+{
+    let Reading::Rfc = reading else {
+        return group_code(code);
+    };
+    if vendor == 0 {
+        return group_code(code);
+    }
+    false
 }

@@ -1,51 +1,48 @@
--- What an answer of `AVP::head` says of the bytes that it was asked of, for loops over a run: `Whole` is answered exactly where an AVP is
--- complete, and then what is left after it is the run from its size on.
+-- What an answer of `AVP::complete` says of the bytes that it was asked of, for loops over a run: `Whole` is answered exactly where an AVP
+-- is complete, and then what is left after it is the run from its size on.
 -- Assumes nothing.
 use Prim.Native.Nat.{ℕ, _+_, _-_, _≤_, _<_}
-use mathlib.Core.Path.{_≡_, refl, sym, ap, _∙_}
-use mathlib.Core.Bool.{Bool, true, false}
-use mathlib.Core.List.{List, [], _∷_}
-use mathlib.Core.Logic.{⊎-elim}
+use mathlib.Core.Path.{_≡_, refl, sym, ap, subst, _∙_}
+use mathlib.Core.Bool.{Bool, true, false, cond}
+use mathlib.Core.List.{List}
 use native.Mathlib.Omega.{arith}
 use lib.ListN.{length, take, drop, length-take, length-drop}
 use lib.Seq.{drop-drop}
-use types.Run.{OneOf}
-use denote.Enum.Declared.{tagOf}
 use Rattle.octets.specs.Run.{item, after}
 use Rattle.octets.proofs.Lists.{rest}
-use Rattle.rfc6733.specs.Answer.{accepted}
 use Rattle.rfc6733.specs.Avp.{code, flags, avpLength, headSize, vendor, avpSize, avpRefusals, complete}
-use Rattle.rfc6733.proofs.Answers.{not-accepted, passed, accepts}
+use Rattle.rfc6733.proofs.Answers.{passed}
 use Rattle.rfc6733.proofs.Complete as rfc
 use Rattle.rfc6733.proofs.Complete.{head, sizes, complete-whole}
 use Rattle.rfc6733.proofs.Items.{avpsBy}
 use Rattle.avp.specs.declared.AVP.{AVP}
-use Rattle.avp.specs.declared.Front.{Front}
-use Rattle.avp.specs.declared.Front.the-variants.{Whole, Incomplete, BadLength}
-use Rattle.avp.specs.Front.{avpOf, answerOf, frontOf}
-use Rattle.avp.proofs.Front.{the-type}
+use Rattle.avp.specs.declared.Front.the-variants as front
+use Rattle.avp.specs.declared.Complete.{Complete}
+use Rattle.avp.specs.declared.Complete.the-variants.{Whole, Broken}
+use Rattle.avp.specs.Front.{avpOf, completeOf, answerOf, frontOf}
 
-pub was-whole : (s : List ℕ) (a : AVP) → answerOf (Whole a) ≡ frontOf s → (complete s ≡ true) × (a ≡ avpOf s)
-unfolding answerOf frontOf complete
-was-whole s a e = let p = passed (avpRefusals s) (avpOf s) a (sym e) in (p .0, sym (p .1))
+abbrev Was : Complete → List ℕ → Type 0
+Was (Whole a) s = (complete s ≡ true) × (a ≡ avpOf s)
+Was Broken s = complete s ≡ false
 
--- an answer that is not `Whole`, as `let .. else` tells it
-abbrev pub NotWhole : Front → Type 0
-NotWhole r = OneOf (1 ∷ 2 ∷ []) (tagOf the-type r)
-
-not-the-acceptance : (r : Front) (a : AVP) → NotWhole r → answerOf r ≡ accepted a → ⊥
-unfolding answerOf
-not-the-acceptance (Whole b) a k e = ⊎-elim (λ t. omega arith) (λ t. omega arith) k
-not-the-acceptance (Incomplete n) a k e = not-accepted e
-not-the-acceptance BadLength a k e = not-accepted e
-
-pub was-not-whole : (s : List ℕ) (r : Front) → NotWhole r → answerOf r ≡ frontOf s → complete s ≡ false
-unfolding frontOf complete
-was-not-whole s r k e = by (complete s) refl
+was : (s : List ℕ) → Was (completeOf s) s
+unfolding completeOf
+was s = by (complete s) refl
   where
-    by : (b : Bool) → complete s ≡ b → b ≡ false
-    by true t = absurd (not-the-acceptance r (avpOf s) k (e ∙ accepts (avpRefusals s) (avpOf s) t))
-    by false t = refl
+    by : (b : Bool) → complete s ≡ b → Was (cond b (Whole (avpOf s)) Broken) s
+    by true t = (t, refl)
+    by false t = t
+
+pub was-whole : (s : List ℕ) (a : AVP) → Whole a ≡ completeOf s → (complete s ≡ true) × (a ≡ avpOf s)
+was-whole s a e = subst (λ (r : Complete). Was r s) (sym e) (was s)
+
+pub was-broken : (s : List ℕ) → Broken ≡ completeOf s → complete s ≡ false
+was-broken s e = subst (λ (r : Complete). Was r s) (sym e) (was s)
+
+-- an AVP that `AVP::head` accepts is complete too
+pub was-accepted : (s : List ℕ) (a : AVP) → answerOf (front.Whole a) ≡ frontOf s → (complete s ≡ true) × (a ≡ avpOf s)
+unfolding answerOf frontOf complete
+was-accepted s a e = let p = passed (avpRefusals s) (avpOf s) a (sym e) in (p .0, sym (p .1))
 
 -- ---- the fields of the AVP at the front
 
@@ -67,7 +64,7 @@ here s a e =
       size-is = ap (λ (x : AVP). x .size) e;
     }
 
--- ---- a turn of a loop over `&s[at..]`, once `AVP::head` answered `Whole(a)` there
+-- ---- a turn of a loop over `&s[at..]`, once `AVP::complete` answered `Whole(a)` there
 
 pub record Turn (s : List ℕ) (at : ℕ) (a : AVP) : Type 0 where
   pub complete-here : complete (drop at s) ≡ true
@@ -82,10 +79,10 @@ pub record Turn (s : List ℕ) (at : ℕ) (a : AVP) : Type 0 where
   pub next : drop (at + a .size) s ≡ drop (a .size) (drop at s)
   pub own-length : length (take (a .size) (drop at s)) ≡ a .size
 
-pub turn : (s : List ℕ) (at : ℕ) (a : AVP) → at < length s → answerOf (Whole a) ≡ frontOf (take (length s - at) (drop at s)) → Turn s at a
+pub turn : (s : List ℕ) (at : ℕ) (a : AVP) → at < length s → Whole a ≡ completeOf (take (length s - at) (drop at s)) → Turn s at a
 turn s at a h e =
     let left = drop at s in
-    let p = was-whole left a (e ∙ ap frontOf (rest s at (omega arith))) in
+    let p = was-whole left a (e ∙ ap completeOf (rest s at (omega arith))) in
     let f = here left a (p .1) in
     let w = complete-whole left (p .0) in
     let hd = head (flags left) in
@@ -116,6 +113,5 @@ module _ (nested : List ℕ → Bool) (s : List ℕ) (at : ℕ) (a : AVP) (t : T
   unfolding item
   own-is = ap (λ (k : ℕ). take k (drop at s)) (t .fields .size-is)
 
-pub stuck : (s : List ℕ) (at : ℕ) (r : Front) → at < length s → NotWhole r → answerOf r ≡ frontOf (take (length s - at) (drop at s))
-    → complete (drop at s) ≡ false
-stuck s at r h k e = was-not-whole (drop at s) r k (e ∙ ap frontOf (rest s at (omega arith)))
+pub stuck : (s : List ℕ) (at : ℕ) → at < length s → Broken ≡ completeOf (take (length s - at) (drop at s)) → complete (drop at s) ≡ false
+stuck s at h e = was-broken (drop at s) (e ∙ ap completeOf (rest s at (omega arith)))

@@ -1,4 +1,4 @@
--- `frontOf` by cases: which facts lead to which answer, in the order of the refusals. Each refusal is the tests that fail, in their
+-- `completeOf` and `frontOf` by cases: which facts lead to which answer, in the order of the refusals. Each refusal is the tests that fail, in their
 -- order, and then the one that holds. A complete AVP passes them all.
 -- Assumes nothing.
 use Prim.Native.Nat.{ℕ, _-_, _≤_, _<_}
@@ -15,8 +15,9 @@ use Rattle.rfc6733.proofs.Answers.{accepts}
 use Rattle.rfc6733.proofs.Complete as rfc
 use Rattle.rfc6733.proofs.Complete.{complete-whole, whole-complete}
 use Rattle.avp.specs.declared.AVP.{AVP}
+use Rattle.avp.specs.declared.Complete.the-variants as front
 use Rattle.avp.specs.declared.Front.the-variants.{Whole, Incomplete, BadLength}
-use Rattle.avp.specs.Front.{avpOf, answerOf, frontOf}
+use Rattle.avp.specs.Front.{avpOf, completeOf, answerOf, frontOf}
 
 module _ (s : List ℕ) where
   pub not-complete : (rfc.Whole s → ⊥) → complete s ≡ false
@@ -35,9 +36,17 @@ module _ (s : List ℕ) where
       by false t =
           absurd (false-true (sym e ∙ whole-complete s (record { eight = eight; long = long; room = ltb-false _ _ t })))
 
-  pub whole : rfc.Whole s → (a : AVP) → a ≡ avpOf s → answerOf (Whole a) ≡ frontOf s
+  pub broken : complete s ≡ false → front.Broken ≡ completeOf s
+  unfolding completeOf
+  broken e = rw e
+
+  pub whole : rfc.Whole s → (a : AVP) → a ≡ avpOf s → front.Whole a ≡ completeOf s
+  unfolding completeOf
+  whole w a e = rw (whole-complete s w, e)
+
+  pub accepted-whole : complete s ≡ true → (a : AVP) → a ≡ avpOf s → answerOf (Whole a) ≡ frontOf s
   unfolding answerOf frontOf complete
-  whole w a e = rw e (sym (accepts (avpRefusals s) (avpOf s) (whole-complete s w)))
+  accepted-whole t a e = rw e (sym (accepts (avpRefusals s) (avpOf s) t))
 
   pub under-four : length s < 4 → answerOf (Incomplete (4 - length s)) ≡ frontOf s
   unfolding answerOf frontOf avpRefusals

@@ -1,10 +1,13 @@
 -- What reading the AVP at the front of a slice answers, as document 01's answer.
 -- Assumes nothing: these are definitions.
 use Prim.Native.Nat.{ℕ}
+use mathlib.Core.Bool.{cond}
 use mathlib.Core.List.{List}
 use Rattle.rfc6733.specs.Answer.{Answer, accepted, refused, answer, incomplete, badLength}
 use Rattle.rfc6733.specs.Avp as rfc
 use Rattle.avp.specs.declared.AVP.{AVP}
+use Rattle.avp.specs.declared.Complete.{Complete}
+use Rattle.avp.specs.declared.Complete.the-variants as complete
 use Rattle.avp.specs.declared.Front.{Front}
 use Rattle.avp.specs.declared.Front.the-variants.{Whole, Incomplete, BadLength}
 
@@ -18,6 +21,10 @@ avpOf s =
       «vendor_id» = rfc.vendor s;
       size = rfc.avpSize s;
     }
+
+-- the AVP at the front, if it is complete
+unfoldable pub completeOf : List ℕ → Complete
+completeOf s = cond (rfc.complete s) (complete.Whole (avpOf s)) complete.Broken
 
 unfoldable pub answerOf : Front → Answer AVP
 answerOf (Whole a) = accepted a

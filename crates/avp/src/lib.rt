@@ -7,7 +7,7 @@ ghost use lib.ListN.{length};
 ghost use Rattle.rfc6733.specs.Flags.{bit};
 ghost use Rattle.rfc6733.specs.Avp.{flags, vendorBit, mandatoryBit, protectedBit, avpReserved, headSize, vendor, padding, complete};
 ghost use Rattle.rfc6733.specs.Record.{tiling};
-ghost use Rattle.avp.specs.Front.{answerOf, frontOf};
+ghost use Rattle.avp.specs.Front.{completeOf, answerOf, frontOf};
 
 /// The header of one AVP, and its size with its padding.
 pub struct AVP {
@@ -18,6 +18,12 @@ pub struct AVP {
     /// 0 without the vendor bit
     pub vendor_id: u32,
     pub size: usize,
+}
+
+/// What is at the front of a slice, as a run asks it: a complete AVP, or none.
+pub enum Complete {
+    Whole(AVP),
+    Broken,
 }
 
 /// What is at the front of a slice: a complete AVP, or the refusal.
@@ -145,31 +151,41 @@ impl AVP {
         Front::Incomplete(length + Self::padding(length - header_size) - available)
     }
 
-    /// The AVP at the front of `s`. Three tests tell a complete one, and only the others ask which refusal is first.
-    pub fn head(s: &[u8]) -> Front
-        ensures { λ r. ⌜ answerOf r ≡ frontOf (now (s .entry)) ⌝ }
+    /// The AVP at the front of `s`, if it is complete. Three tests tell.
+    pub fn complete(s: &[u8]) -> Complete
+        ensures { λ r. ⌜ r ≡ completeOf (now (s .entry)) ⌝ }
     {
         let available = s.len();
         if available < Self::PRE_LENGTH_SIZE {
-            return Self::refusal(s);
+            return Complete::Broken;
         }
         let flags = s[4];
         let length = octets::be_u24(s[5], s[6], s[7]) as usize;
         let header_size = Self::header_size_of(flags);
         if length < header_size {
-            return Self::refusal(s);
+            return Complete::Broken;
         }
         let size = length + Self::padding(length - header_size);
         if available < size {
-            return Self::refusal(s);
+            return Complete::Broken;
         }
-        Front::Whole(AVP {
+        Complete::Whole(AVP {
             code: octets::be_u32(s[0], s[1], s[2], s[3]),
             flags,
             length,
             vendor_id: Self::vendor_id(s),
             size,
         })
+    }
+
+    /// The AVP at the front of `s`, or the first refusal.
+    pub fn head(s: &[u8]) -> Front
+        ensures { λ r. ⌜ answerOf r ≡ frontOf (now (s .entry)) ⌝ }
+    {
+        match Self::complete(s) {
+            Complete::Whole(a) => Front::Whole(a),
+            Complete::Broken => Self::refusal(s),
+        }
     }
 }
 
@@ -179,7 +195,7 @@ pub fn tiles(s: &[u8]) -> bool
 {
     let mut at: usize = 0;
     while at < s.len() {
-        let Front::Whole(a) = AVP::head(&s[at..]) else {
+        let Complete::Whole(a) = AVP::complete(&s[at..]) else {
             return false;
         };
         at += a.size;

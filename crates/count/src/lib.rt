@@ -1,9 +1,8 @@
 // Counting a run before anything is written: does it tile, how many records has it, how many headers are tried?
 // This crate looks at headers and never at values, and writes nothing.
 use attribute::Reading;
-use attribute::kinds::GROUPED;
 use avp::AVP;
-use avp::Front;
+use avp::Complete;
 ghost use mathlib.Core.Path.{_≡_};
 ghost use Prim.Native.Nat.{_<_};
 ghost use Rattle.octets.specs.Run.{tree};
@@ -34,7 +33,7 @@ pub fn count_run(reading: Reading, s: &[u8], left: usize) -> Counted
         if left == 0 {
             return Counted::TooDeep;
         }
-        let Front::Whole(a) = AVP::head(&s[at..]) else {
+        let Complete::Whole(a) = AVP::complete(&s[at..]) else {
             return Counted::Counts {
                 tiles: false,
                 records,
@@ -66,7 +65,7 @@ fn count_avp(reading: Reading, s: &[u8], a: AVP, left: usize) -> Counted
     requires { ⌜ (a ≡ avpOf (now s)) × Exact (now s) × (0 < left) ⌝ }
     ensures { λ r. ⌜ r ≡ countOf left (tree (avps (dictionary reading)) (now (s .entry))) ⌝ }
 {
-    if attribute::kind(reading, a.code, a.vendor_id) != GROUPED {
+    if !attribute::is_grouped(reading, a.code, a.vendor_id) {
         return Counted::Counts {
             tiles: true,
             records: 1,

@@ -2,7 +2,7 @@
 use attribute::Reading;
 use attribute::kinds::GROUPED;
 use avp::AVP;
-use avp::Front;
+use avp::Complete;
 use flags::ErrorFlags;
 use record::Record;
 use value::Value;
@@ -18,7 +18,7 @@ ghost use Rattle.rfc6733.specs.Avp.{Exact, avpReserved};
 ghost use Rattle.rfc6733.specs.Record.{avps};
 ghost use Rattle.rfc6733.specs.Entered.{entered};
 ghost use Rattle.avp.specs.Front.{avpOf};
-ghost use Rattle.attribute.specs.Attributes.{dictionary};
+ghost use Rattle.attribute.specs.Attributes.{dictionary, kindTable};
 ghost use Rattle.diameter.specs.Fill.{Room, Written, Members};
 
 // How many records, and their error flags joined.
@@ -59,21 +59,30 @@ fn own_errors(a: AVP, pads: u32) -> u8
 }
 
 // The records of the run `s`, which stands at `place` of the input and has the depth `depth`.
-pub(super) fn read_run(reading: Reading, s: &[u8], place: usize, depth: u8, store: &mut [u8]) -> Ran
+pub(super) fn read_run(
+    reading: Reading,
+    kinds: &[u8],
+    s: &[u8],
+    place: usize,
+    depth: u8,
+    store: &mut [u8],
+) -> Ran
     requires { ⌜ tiles (tree (avps (dictionary reading)) (now s)) ≡ true ⌝ }
     requires { ⌜ Room (tree (avps (dictionary reading)) (now s)) place (length (now s)) depth (length (now store)) ⌝ }
+    requires { ⌜ now kinds ≡ kindTable reading ⌝ }
     ensures { λ r. ⌜ Written (dictionary reading) (tree (avps (dictionary reading)) (now (s .entry))) place depth r (now (store .entry)) (now (store .exit)) ⌝ }
 {
     let mut at: usize = 0;
     let mut n: usize = 0;
     let mut errors: u8 = 0;
     while at < s.len() {
-        let Front::Whole(a) = AVP::head(&s[at..]) else {
+        let Complete::Whole(a) = AVP::complete(&s[at..]) else {
             return Ran { records: n, errors };
         };
         let next = at + a.size;
         let one = read_avp(
             reading,
+            kinds,
             &s[at..next],
             a,
             place + at,
@@ -88,15 +97,25 @@ pub(super) fn read_run(reading: Reading, s: &[u8], place: usize, depth: u8, stor
 }
 
 // The records of the AVP `a`, whose own bytes are `s`: its own, and its members' after it.
-fn read_avp(reading: Reading, s: &[u8], a: AVP, place: usize, depth: u8, store: &mut [u8]) -> Ran
+fn read_avp(
+    reading: Reading,
+    kinds: &[u8],
+    s: &[u8],
+    a: AVP,
+    place: usize,
+    depth: u8,
+    store: &mut [u8],
+) -> Ran
     requires { ⌜ (a ≡ avpOf (now s)) × Exact (now s) ⌝ }
     requires { ⌜ Room (tree (avps (dictionary reading)) (now s)) place (length (now s)) depth (length (now store)) ⌝ }
+    requires { ⌜ now kinds ≡ kindTable reading ⌝ }
     ensures { λ r. ⌜ Written (dictionary reading) (tree (avps (dictionary reading)) (now (s .entry))) place depth r (now (store .entry)) (now (store .exit)) ⌝ }
 {
     let from = a.header_size();
     let to = a.length;
     let value = read_value(
         reading,
+        kinds,
         a.code,
         a.vendor_id,
         &s[from..to],
@@ -128,6 +147,7 @@ fn read_avp(reading: Reading, s: &[u8], a: AVP, place: usize, depth: u8, store: 
 // The value of an AVP's data, which stand at `place`, and the records of its members, which are one level deeper.
 fn read_value(
     reading: Reading,
+    kinds: &[u8],
     code: u32,
     vendor: u32,
     data: &[u8],
@@ -136,13 +156,14 @@ fn read_value(
     store: &mut [u8],
 ) -> Valued
     requires { ⌜ Room (entered (dictionary reading) code vendor (now «data»)) place (length (now «data»)) (depth + 1) (length (now store)) ⌝ }
+    requires { ⌜ now kinds ≡ kindTable reading ⌝ }
     ensures { λ r. ⌜ Members (dictionary reading) code vendor (now («data» .entry)) place depth r (now (store .entry)) (now (store .exit)) ⌝ }
 {
-    let read = Value::new(reading, code, vendor, data);
+    let read = Value::new(reading, attribute::kind(reading, kinds, code, vendor), data);
     let value = read.value;
     let kind = value.kind();
     if kind == GROUPED {
-        let members = read_run(reading, data, place, depth + 1, store);
+        let members = read_run(reading, kinds, data, place, depth + 1, store);
         return Valued {
             kind,
             number: 0,

@@ -78,7 +78,8 @@ fn fill_store(reading: Reading, s: &[u8], place: usize, store: &mut [u8]) -> u8
     requires { ⌜ Room (tree (avps (dictionary reading)) (now s)) place (length (now s)) 1 (length (now store)) ⌝ }
     ensures { λ r. ⌜ Filled (dictionary reading) (tree (avps (dictionary reading)) (now (s .entry))) place r (now (store .entry)) (now (store .exit)) ⌝ }
 {
-    let ran = fill::read_run(reading, s, place, 1, store);
+    let kinds = attribute::kind_table(reading);
+    let ran = fill::read_run(reading, &kinds, s, place, 1, store);
     let n = ran.records;
     clear(&mut store[n * Record::SIZE..]);
     ran.errors

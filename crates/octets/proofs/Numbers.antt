@@ -4,9 +4,9 @@
 use Prim.Native.Nat.{ℕ, zero, suc, _+_, _*_, _/_, _%_, _^_, _≤_, _<_}
 use mathlib.Core.Path.{_≡_, refl, sym, ap, ap₂, _∙_}
 use mathlib.Core.List.{List, [], _∷_, _++_, append-assoc, append-nil}
-use native.Mathlib.Nat.{pow-suc, pow-succ', mod-one, div-one, div-div-eq-div-mul, zero-add, add-zero, add-suc, add-assoc, one-le-pow, zero-lt-suc}
+use native.Mathlib.Nat.{pow-suc, pow-succ', mod-one, div-one, div-div-eq-div-mul, zero-add, add-zero, add-suc, add-assoc, one-le-pow, zero-lt-suc, mod-lt}
 use native.Mathlib.Omega.{arith}
-use lib.Arith.{mod-mul}
+use lib.Arith.{mod-mul, digits-div, digits-mod}
 use lib.ListN.{length, getD, take, drop, length-append, length-drop, List·getD-append}
 use lib.Seq.{getD-append-seam, getD-append-add, getD-take, getD-drop, take-suc, take-all}
 use Rattle.octets.specs.Octets.{be, octets, Field, field, pack, widths, Bytes, Reads}
@@ -150,3 +150,12 @@ written-parts m (suc n) v =
     ∙ ap (λ (l : List ℕ). l ++ (v % 256 ∷ [])) (written-parts m n (v / 256))
     ∙ append-assoc (octets m (v / 256 / 256 ^ n)) (octets n (v / 256)) (v % 256 ∷ [])
     ∙ ap (λ (q : ℕ). octets m q ++ octets (suc n) v) (div-div-eq-div-mul v 256 (256 ^ n) ∙ ap (λ (d : ℕ). v / d) (sym (pow-succ' 256 n)))
+
+-- the two parts of a number written as one
+pub written-joined : (m n h l : ℕ) → octets (m + n) (h * 256 ^ n + l % 256 ^ n) ≡ octets m h ++ octets n l
+written-joined m n h l =
+    let k = 256 ^ n in
+    let v = h * k + l % k in
+    let small : l % k < k = mod-lt l (one-le-pow n 256 (omega arith)) in
+    written-parts m n v
+    ∙ ap₂ _++_ (ap (octets m) (digits-div h small)) (sym (written-low n v) ∙ ap (octets n) (digits-mod h small) ∙ written-low n l)

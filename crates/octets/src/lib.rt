@@ -16,16 +16,23 @@ fn wide64(x: u8) -> u64
     x as u64
 }
 
+pub fn be_u16(a: u8, b: u8) -> u32
+    ensures { λ r. ⌜ Reads 2 (a ∷ b ∷ []) r ⌝ }
+{
+    wide(a) * 256 + wide(b)
+}
+
 pub fn be_u24(a: u8, b: u8, c: u8) -> u32
     ensures { λ r. ⌜ Reads 3 (a ∷ b ∷ c ∷ []) r ⌝ }
 {
-    (wide(a) * 256 + wide(b)) * 256 + wide(c)
+    be_u16(a, b) * 256 + wide(c)
 }
 
+// In two halves: the compiler then takes the four bytes in one load, also where the number is compared.
 pub fn be_u32(a: u8, b: u8, c: u8, d: u8) -> u32
     ensures { λ r. ⌜ Reads 4 (a ∷ b ∷ c ∷ d ∷ []) r ⌝ }
 {
-    be_u24(a, b, c) * 256 + wide(d)
+    be_u16(a, b) * 65536 + be_u16(c, d)
 }
 
 pub fn be_u64(a: u8, b: u8, c: u8, d: u8, e: u8, f: u8, g: u8, h: u8) -> u64

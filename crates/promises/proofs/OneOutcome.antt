@@ -3,6 +3,7 @@
 -- Assumes nothing.
 use mathlib.Core.Path.{_≡_, sym, _∙_}
 use denote.Ref.{now}
+use Rattle.octets.proofs.be_u16.Reads as be-u16
 use Rattle.octets.proofs.be_u24.Reads as be-u24
 use Rattle.octets.proofs.be_u32.Reads as be-u32
 use Rattle.octets.proofs.be_u64.Reads as be-u64
@@ -14,7 +15,9 @@ use Rattle.flags.proofs.raised.Reads as raised
 use Rattle.flags.proofs.join.Reads as join
 use Rattle.attribute.proofs.Attribute.new.Reads as attribute-new
 use Rattle.attribute.proofs.Attribute.read.Reads as attribute-read
+use Rattle.attribute.proofs.kind_table.Reads as kind-table
 use Rattle.attribute.proofs.kind.Reads as kind
+use Rattle.attribute.proofs.is_grouped.Reads as is-grouped
 use Rattle.header.proofs.length.Reads as length
 use Rattle.header.proofs.Header.is_request.Reads as is-request
 use Rattle.header.proofs.Header.is_proxiable.Reads as is-proxiable
@@ -29,6 +32,7 @@ use Rattle.avp.proofs.AVP.is_protected.Reads as is-protected
 use Rattle.avp.proofs.AVP.get_reserved.Reads as avp-get-reserved
 use Rattle.avp.proofs.AVP.header_size.Reads as header-size
 use Rattle.avp.proofs.AVP.padding.Reads as padding
+use Rattle.avp.proofs.AVP.complete.Reads as complete
 use Rattle.avp.proofs.AVP.head.Reads as head
 use Rattle.avp.proofs.tiles.Reads as tiles
 use Rattle.record.proofs.Record.put.Reads as record-put
@@ -42,6 +46,12 @@ use Rattle.count.proofs.count_run.Reads as count-run
 use Rattle.diameter.proofs.parse.Reads as parse
 use Rattle.diameter.proofs.parse_avp.Reads as parse-avp
 use Rattle.writer.proofs.write.Reads as write
+use Rattle.tandrekily.proofs.tandrekily_message.Reads as tandrekily-message
+use Rattle.tandrekily.proofs.tandrekily_header.Reads as tandrekily-header
+use Rattle.tandrekily.proofs.tandrekily_avp.Reads as tandrekily-avp
+use Rattle.tandrekily.proofs.tandrekily_write.Reads as tandrekily-write
+use Rattle.tandrekily.proofs.tandrekily_is_utf8.Reads as tandrekily-is-utf8
+use Rattle.tandrekily.proofs.tandrekily_unix_seconds.Reads as tandrekily-unix-seconds
 use Rattle.header.proofs.AnswerOf as header-answers
 use Rattle.avp.proofs.AnswerOf as avp-answers
 use Rattle.record.proofs.RecordAs.{record-as-injective}
@@ -55,6 +65,9 @@ abbrev Single {i j k l m} : {K : Type i} {A : K → Type j} {R : K → Type k} {
 Single {K = K} {A = A} {R = R} {S = S} Post = (κs : K) (a : A κs) (r r′ : R κs) (s : S κs) → Post κs a r s → Post κs a r′ s → r ≡ r′
 
 -- ---- octets
+
+be-u16-one : Single be-u16.Post
+be-u16-one κs a r r′ s p q = p .is ∙ sym (q .is)
 
 be-u24-one : Single be-u24.Post
 be-u24-one κs a r r′ s p q = p .is ∙ sym (q .is)
@@ -95,8 +108,14 @@ attribute-new-one κs a r r′ s p q = p ∙ sym q
 attribute-read-one : Single attribute-read.Post
 attribute-read-one κs a r r′ s p q = p ∙ sym q
 
+kind-table-one : Single kind-table.Post
+kind-table-one κs a r r′ s p q = p ∙ sym q
+
 kind-one : Single kind.Post
 kind-one κs a r r′ s p q = p ∙ sym q
+
+is-grouped-one : Single is-grouped.Post
+is-grouped-one κs a r r′ s p q = p ∙ sym q
 
 -- ---- header
 
@@ -143,6 +162,9 @@ header-size-one κs a r r′ s p q = p ∙ sym q
 
 padding-one : Single padding.Post
 padding-one κs a r r′ s p q = p ∙ sym q
+
+complete-one : Single complete.Post
+complete-one κs a r r′ s p q = p ∙ sym q
 
 head-one : Single head.Post
 head-one κs a r r′ s p q = avp-answers.answer-of-injective r r′ (p ∙ sym q)
@@ -209,3 +231,27 @@ write-one κs a r r′ s s′ p q =
     let at-exit = p .1 in
     let at-exit′ = q .1 in
     (e, cc)
+
+-- ---- tandrekily: it answers by its result, the last parameter, and the lent bytes, the one before, are told too
+
+tandrekily-message-one : (κs : _) (a : _) (r r′ : _) (s s′ : _) → tandrekily-message.Post κs a r s → tandrekily-message.Post κs a r′ s′
+    → (now (s .1 .1 .1 .1 .0) ≡ now (s′ .1 .1 .1 .1 .0)) × (now (s .1 .1 .1 .0) ≡ now (s′ .1 .1 .1 .0))
+tandrekily-message-one κs a r r′ s s′ p q = (p .0 ∙ sym (q .0), p .1 ∙ sym (q .1))
+
+tandrekily-header-one : (κs : _) (a : _) (r r′ : _) (s s′ : _) → tandrekily-header.Post κs a r s → tandrekily-header.Post κs a r′ s′
+    → now (s .1 .0) ≡ now (s′ .1 .0)
+tandrekily-header-one κs a r r′ s s′ p q = p ∙ sym q
+
+tandrekily-avp-one : (κs : _) (a : _) (r r′ : _) (s s′ : _) → tandrekily-avp.Post κs a r s → tandrekily-avp.Post κs a r′ s′
+    → (now (s .1 .1 .1 .1 .0) ≡ now (s′ .1 .1 .1 .1 .0)) × (now (s .1 .1 .1 .0) ≡ now (s′ .1 .1 .1 .0))
+tandrekily-avp-one κs a r r′ s s′ p q = (p .0 ∙ sym (q .0), p .1 ∙ sym (q .1))
+
+tandrekily-write-one : (κs : _) (a : _) (r r′ : _) (s s′ : _) → tandrekily-write.Post κs a r s → tandrekily-write.Post κs a r′ s′
+    → (now (s .1 .1 .1 .1 .1 .1 .1 .1 .0) ≡ now (s′ .1 .1 .1 .1 .1 .1 .1 .1 .0)) × (now (s .1 .1 .1 .1 .1 .1 .1 .0) ≡ now (s′ .1 .1 .1 .1 .1 .1 .1 .0))
+tandrekily-write-one κs a r r′ s s′ p q = (p .0 ∙ sym (q .0), p .1 ∙ sym (q .1))
+
+tandrekily-is-utf8-one : Single tandrekily-is-utf8.Post
+tandrekily-is-utf8-one κs a r r′ s p q = p ∙ sym q
+
+tandrekily-unix-seconds-one : Single tandrekily-unix-seconds.Post
+tandrekily-unix-seconds-one κs a r r′ s p q = p ∙ sym q

@@ -1,7 +1,7 @@
 // The record of an AVP and its 32 bytes (document 01): written to a store and read from a table.
 // This crate knows the layout, and nothing of how a record comes about.
 ghost use mathlib.Core.Path.{_≡_};
-ghost use mathlib.Core.List.{reverse};
+ghost use mathlib.Core.List.{_++_, reverse};
 ghost use Prim.Native.Nat.{_+_, _≤_, _<_};
 ghost use lib.ListN.{length, take, drop, replicate};
 ghost use lib.Seq.{sets};
@@ -34,16 +34,6 @@ fn put_u8(store: &mut [u8], at: usize, v: u8)
     ensures { λ _. ⌜ now (store .exit) ≡ sets (now (store .entry)) at (octets 1 v) ⌝ }
 {
     store[at] = v;
-}
-
-fn put_u24(store: &mut [u8], at: usize, v: u32)
-    requires { ⌜ at + 3 ≤ length (now store) ⌝ }
-    ensures { λ _. ⌜ now (store .exit) ≡ sets (now (store .entry)) at (octets 3 v) ⌝ }
-{
-    let b = octets::to_be_u24(v);
-    store[at] = b[0];
-    store[at + 1] = b[1];
-    store[at + 2] = b[2];
 }
 
 // The bytes of a number turned round. A number is stored turned round and its lowest byte first: the compiler joins such stores
@@ -88,6 +78,22 @@ fn put_u64(store: &mut [u8], at: usize, v: u64)
     store[at + 7] = b[0];
 }
 
+// A byte and then three bytes, as one number, since that is one store.
+fn put_u8_u24(store: &mut [u8], at: usize, high: u8, low: u32)
+    requires { ⌜ at + 4 ≤ length (now store) ⌝ }
+    ensures { λ _. ⌜ now (store .exit) ≡ sets (now (store .entry)) at (octets 1 high ++ octets 3 low) ⌝ }
+{
+    put_u32(store, at, high as u32 * 0x100_0000 + low % 0x100_0000);
+}
+
+// Three bytes and then a byte, in the same way.
+fn put_u24_u8(store: &mut [u8], at: usize, high: u32, low: u8)
+    requires { ⌜ at + 4 ≤ length (now store) ⌝ }
+    ensures { λ _. ⌜ now (store .exit) ≡ sets (now (store .entry)) at (octets 3 high ++ octets 1 low) ⌝ }
+{
+    put_u32(store, at, high % 0x100_0000 * 0x100 + low as u32);
+}
+
 impl Record {
     pub const SIZE: usize = 32;
 
@@ -97,8 +103,7 @@ impl Record {
         ensures { λ _. ⌜ now (store .exit) ≡ sets (now (store .entry)) 0 (pack (take 4 (layout (recordAs self)))) ⌝ }
     {
         put_u32(store, 0, self.code);
-        put_u8(store, 4, self.flags);
-        put_u24(store, 5, self.length);
+        put_u8_u24(store, 4, self.flags, self.length);
         put_u32(store, 8, self.vendor);
     }
 
@@ -112,8 +117,7 @@ impl Record {
         put_u8(store, 17, self.kind);
         put_u8(store, 18, self.errors);
         put_u8(store, 19, self.padding);
-        put_u24(store, 20, self.pads);
-        put_u8(store, 23, 0);
+        put_u24_u8(store, 20, self.pads, 0);
         put_u64(store, 24, self.value);
     }
 

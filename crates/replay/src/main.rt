@@ -178,7 +178,7 @@ fn input_size(frame: [u8; FRAME_SIZE]) -> usize {
 }
 
 fn store_size(frame: [u8; FRAME_SIZE]) -> usize {
-    octets::be_u24(0, frame[3], frame[4]) as usize * Record::SIZE + SPARE
+    octets::be_u16(frame[3], frame[4]) as usize * Record::SIZE + SPARE
 }
 
 // Reads the input of a frame, answers it and writes the store; false where the input is cut off.

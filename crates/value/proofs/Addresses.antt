@@ -3,11 +3,11 @@
 -- Assumes nothing.
 use Prim.Native.Nat.{ℕ, _≤_, _<_}
 use mathlib.Core.Path.{_≡_}
-use mathlib.Core.List.{List, [], _∷_}
+use mathlib.Core.List.{List}
 use native.Mathlib.Omega.{arith}
-use lib.ListN.{length, getD}
+use lib.ListN.{length}
 use borrow.Author.Tests.{lt-ltb, le-ltb, eq-eqb, ne-eqb}
-use Rattle.octets.specs.Octets.{be, Reads}
+use Rattle.octets.specs.Octets.{be}
 use Rattle.rfc6733.specs.Flags.{dataLength}
 use Rattle.rfc6733.specs.Dictionary.{bareAddress, familyAddress}
 use Rattle.value.specs.declared.Value.the-variants.{Unhandled, Address}
@@ -15,11 +15,6 @@ use Rattle.value.specs.declared.IpAddr.the-variants.{V4, V6}
 use Rattle.value.specs.declared.Read.{Read}
 use Rattle.value.specs.Values.{Shows}
 use Rattle.value.proofs.Shown.{Made, is-unhandled, ipv4, ipv6}
-
--- a family of two bytes, read as a number of three whose first byte is 0
-pub family-is : (s : List ℕ) (f : ℕ) → Reads 3 (0 ∷ getD s 0 0 ∷ getD s 1 0 ∷ []) f → f ≡ be 2 s 0
-unfolding be
-family-is s f h = omega (arith, h .is)
 
 module _ (s : List ℕ) (r : Read) where
   -- ---- the address alone

@@ -1,22 +1,17 @@
--- Which kinds there are. A `match` says of a number that it is one of several, or none of them; and a table has no kind above the
--- greatest of its rows, which is 14, by computation, in both dictionaries.
+-- Which kinds there are. A `match` says of a number that it is one of several, or none of them; what is left then is Unhandled.
 -- Assumes nothing.
-use Prim.Native.Nat.{ℕ, suc, max, _≤_}
+use Prim.Native.Nat.{ℕ, suc, _≤_}
 use mathlib.Core.Path.{_≡_, refl}
 use mathlib.Core.Bool.{Bool, true, false, cond, _||_}
 use mathlib.Core.List.{List, [], _∷_, _++_}
 use mathlib.Core.Logic.{inl, inr}
 use native.Mathlib.Omega.{arith}
 use types.Run.{OneOf}
-use lib.Dec.{eqb}
-use borrow.Author.Tests.{eq-eqb, ne-eqb, eqb-true}
+use lib.Dec.{leb, eqb}
+use borrow.Author.Tests.{ne-eqb, eqb-true, leb-true}
 use Rattle.octets.proofs.Runs.{false-true}
 use Rattle.rfc6733.specs.Value.{oneOf, unhandled, time}
-use Rattle.rfc6733.specs.Dictionary.{Row, kindIn, baseAvps, sawpAvps, sawp, rfc}
-use Rattle.attribute.specs.Attributes.{dictionary}
-use Rattle.attribute.specs.declared.Reading.{Reading}
-use Rattle.attribute.specs.declared.Reading.the-variants.{Sawp, Rfc}
-use Rattle.value.specs.Values.{kinds32, kinds64}
+use Rattle.value.specs.Values.{kinds32, kinds64, known}
 
 -- ---- one of several numbers
 
@@ -30,16 +25,6 @@ of-one P [] all k h = absurd h
 of-one P (x ∷ []) all k h = rw h (all .0)
 of-one P (x ∷ y ∷ ks) all k (inl e) = rw e (all .0)
 of-one P (x ∷ y ∷ ks) all k (inr h) = of-one P (y ∷ ks) (all .1) k h
-
-pub one-of : (ks : List ℕ) (k : ℕ) → OneOf ks k → oneOf k ks ≡ true
-one-of [] k h = absurd h
-one-of (x ∷ []) k h = rw (eq-eqb k x h)
-one-of (x ∷ y ∷ ks) k (inl e) = rw (eq-eqb k x e)
-one-of (x ∷ y ∷ ks) k (inr h) = rw (one-of (y ∷ ks) k h) (or-true (eqb k x))
-  where
-    or-true : (b : Bool) → b || true ≡ true
-    or-true true = refl
-    or-true false = refl
 
 -- ---- the number that is left
 
@@ -68,8 +53,8 @@ last-one {k} xs x u = unlisted (Unit {0}) k xs x u .1
 lower : {k n : ℕ} → (k ≡ suc n → ⊥) → k ≤ suc n → k ≤ n
 lower other h = omega arith
 
--- what is none of the kinds that a `match` lists is Unhandled
-pub none-left : {k : ℕ} → k ≤ time → (k ≡ 1 → ⊥) → (OneOf kinds32 k → ⊥) → (OneOf kinds64 k → ⊥) → (k ≡ 8 → ⊥) → (k ≡ 10 → ⊥)
+-- a kind that is none of those that a `match` lists is Unhandled
+none-left : {k : ℕ} → k ≤ time → (k ≡ 1 → ⊥) → (OneOf kinds32 k → ⊥) → (OneOf kinds64 k → ⊥) → (k ≡ 8 → ⊥) → (k ≡ 10 → ⊥)
     → (k ≡ 11 → ⊥) → (k ≡ 12 → ⊥) → (k ≡ 13 → ⊥) → k ≡ unhandled
 none-left {k} h k1 k32 k64 k8 k10 k11 k12 k13 =
     let to-13 : k ≤ 13 = lower (λ e. k32 (inr (inr (inr (inr e))))) h in
@@ -80,25 +65,11 @@ none-left {k} h k1 k32 k64 k8 k10 k11 k12 k13 =
     let to-0 : k ≤ 0 = lower k1 (lower (λ e. k32 (inl e)) (lower (λ e. k64 (inl e)) to-3)) in
     omega arith
 
--- ---- the greatest kind
-
-abbrev greatestKind : List Row → ℕ
-greatestKind [] = 0
-greatestKind (r ∷ rs) = max (r .kind) (greatestKind rs)
-
-kind-within : (rs : List Row) (c : ℕ) → kindIn rs c ≤ greatestKind rs
-kind-within [] c = omega arith
-kind-within (r ∷ rs) c = by (eqb c (r .code)) (kind-within rs c)
+-- and so is a number that is no kind
+pub none-known : {k : ℕ} → (k ≡ 1 → ⊥) → (OneOf kinds32 k → ⊥) → (OneOf kinds64 k → ⊥) → (k ≡ 8 → ⊥) → (k ≡ 10 → ⊥) → (k ≡ 11 → ⊥)
+    → (k ≡ 12 → ⊥) → (k ≡ 13 → ⊥) → known k ≡ unhandled
+none-known {k} k1 k32 k64 k8 k10 k11 k12 k13 = by (leb k time) refl
   where
-    by : (b : Bool) → kindIn rs c ≤ greatestKind rs → cond b (r .kind) (kindIn rs c) ≤ max (r .kind) (greatestKind rs)
-    by true h = omega arith
-    by false h = omega arith
-
-pub kind-at-most : (reading : Reading) (code vendor : ℕ) → dictionary reading .kind code vendor ≤ time
-unfolding dictionary sawp rfc
-kind-at-most Sawp code vendor = kind-within sawpAvps code
-kind-at-most Rfc code vendor = by (eqb vendor 0)
-  where
-    by : (b : Bool) → cond b (kindIn baseAvps code) 0 ≤ time
-    by true = kind-within baseAvps code
-    by false = omega arith
+    by : (b : Bool) → leb k time ≡ b → cond b k unhandled ≡ unhandled
+    by true t = none-left (leb-true k time t) k1 k32 k64 k8 k10 k11 k12 k13
+    by false t = refl

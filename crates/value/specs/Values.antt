@@ -5,7 +5,7 @@ use mathlib.Core.Path.{_≡_}
 use mathlib.Core.Bool.{cond}
 use mathlib.Core.List.{List, [], _∷_}
 use lib.ListN.{length}
-use lib.Dec.{ltb, eqb}
+use lib.Dec.{leb, ltb, eqb}
 use Rattle.rfc6733.specs.Flags.{dataValue}
 use Rattle.rfc6733.specs.Value as rfc
 use Rattle.rfc6733.specs.Dictionary.{Dictionary}
@@ -78,9 +78,13 @@ pub record Shows (v : rfc.Value) (s : List ℕ) (r : Read) : Type 0 where
   pub value : readAs r ≡ v
   pub address : (a : IpAddr) → r .value ≡ Address a → a ≡ addressOf s (v .number)
 
--- the data of an AVP by its code and vendor. Of a group it is only asked whether its members tile: their flags are their own
-unfoldable pub newValue : Dictionary → ℕ → ℕ → List ℕ → rfc.Value
-newValue D code vendor s =
-    cond (eqb (D .kind code vendor) rfc.grouped)
+-- a number that is no kind counts as Unhandled
+abbrev pub known : ℕ → ℕ
+known k = cond (leb k rfc.time) k rfc.unhandled
+
+-- data as the kind k. Of a group it is only asked whether its members tile: their flags are their own
+unfoldable pub newValue : Dictionary → ℕ → List ℕ → rfc.Value
+newValue D k s =
+    cond (eqb k rfc.grouped)
     (cond (tiling s) (rfc.value rfc.grouped 0 0) (rfc.value rfc.unhandled dataValue 0))
-    (rfc.readAs (D .asAddress) (D .kind code vendor) s)
+    (rfc.readAs (D .asAddress) k s)

@@ -24,7 +24,7 @@ ghost use Rattle.rfc6733.specs.Dictionary.{bareAddress, familyAddress};
 ghost use Rattle.rfc6733.specs.Value.{oneOf, fixed};
 ghost use Rattle.rfc6733.specs.Flags.{dataValue};
 ghost use Rattle.attribute.specs.Attributes.{dictionary};
-ghost use Rattle.value.specs.Values.{kindOf, addressNumber, numberOf, readAs, kinds32, kinds64, Shows, newValue};
+ghost use Rattle.value.specs.Values.{kindOf, addressNumber, numberOf, readAs, kinds32, kinds64, Shows, known, newValue};
 
 /// AVP Data Format as specified in RFC 6733, section 4.2. Data that are no number stay in the input;
 /// a number is held as its bits, whatever its sign or form.
@@ -171,7 +171,7 @@ impl Read {
         if size < IpAddr::FAMILY_SIZE {
             return Read::unhandled(ErrorFlags::DataLength as u8);
         }
-        let family = octets::be_u24(0, data[0], data[1]);
+        let family = octets::be_u16(data[0], data[1]);
         if family == IpAddr::V4_FAMILY {
             if size != IpAddr::FAMILY_SIZE + IpAddr::V4_SIZE {
                 return Read::unhandled(ErrorFlags::DataLength as u8);
@@ -221,11 +221,10 @@ impl Value {
         }
     }
 
-    /// The value of an AVP's data by its code and vendor.
-    pub fn new(reading: Reading, code: u32, vendor: u32, data: &[u8]) -> Read
-        ensures { λ r. ⌜ Shows (newValue (dictionary reading) code vendor (now («data» .entry))) (now («data» .entry)) r ⌝ }
+    /// The value of an AVP's data by its kind. A number that is no kind is Unhandled.
+    pub fn new(reading: Reading, kind: u8, data: &[u8]) -> Read
+        ensures { λ r. ⌜ Shows (newValue (dictionary reading) (known kind) (now («data» .entry))) (now («data» .entry)) r ⌝ }
     {
-        let kind = attribute::kind(reading, code, vendor);
         match kind {
             OCTET_STRING => Read::good(Value::OctetString),
             INTEGER32 | UNSIGNED32 | FLOAT32 | ENUMERATED | TIME => Read::fixed_32(kind, data),

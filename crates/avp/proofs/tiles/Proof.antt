@@ -10,7 +10,6 @@ use denote.Ref.{now}
 use borrow.Author.Needs.{needs}
 use Rattle.rfc6733.specs.Record.{tiling}
 use Rattle.rfc6733.proofs.Tiling.{tiling-none, tiling-broken, tiling-more}
-use Rattle.avp.specs.Front.{answerOf}
 use Rattle.avp.proofs.Fronts.{Turn, turn, next-is, stuck}
 use Rattle.avp.proofs.tiles.Statement.{statement}
 use Rattle.avp.proofs.tiles.Tie as tie
@@ -26,15 +25,15 @@ turned : (c : tie.After-struct-known Inv-loop μ-loop)
     → let b = c .before .before in
     let l = b .before .before .before .before .before in
     Turn (now (l .before .before .args .s)) (l .loop .at) (b .a .given .0 .0)
-turned c = let b = c .before .before in turn _ _ _ (omega arith) (ap answerOf (sym (b .a .given .1)) ∙ b .before .before .head .ensures)
+turned c = let b = c .before .before in turn _ _ _ (omega arith) (sym (b .a .given .1) ∙ b .before .before .complete .ensures)
 
 -- ---- the needs
 
 returns : tie.Need-returns Inv-loop μ-loop
 returns c =
-    let l = c .before .before .before .before in
+    let l = c .before .before .before .before .before in
     let s = now (l .before .before .args .s) in
-    let none = stuck s (l .loop .at) _ (omega arith) (c .match .keys2) (c .before .head .ensures) in
+    let none = stuck s (l .loop .at) (omega arith) (sym (c .enum-told .given .1) ∙ c .before .before .complete .ensures) in
     sym (tiling-broken (drop (l .loop .at) s) (omega (arith, length-drop (l .loop .at) s)) none) ∙ l .loop .inv .1
 
 add-at : tie.Need-add-at Inv-loop μ-loop
@@ -63,6 +62,7 @@ tiles-spec =
     (λ c. search needs)
     (λ c. search needs)
     (λ c κs. search needs)
+    (λ c. search needs)
     (λ c. search needs)
     returns
     add-at

@@ -10,7 +10,9 @@ use mathlib.Core.Logic.{⊎-elim}
 use native.Mathlib.Omega.{arith}
 use lib.ListN.{length, drop, length-drop, drop-of-length-le}
 use denote.Ref.{now}
+use lib.Dec.{eqb}
 use borrow.Author.Needs.{needs}
+use borrow.Author.Tests.{eqb-true, eqb-false, not-true, not-false}
 use borrow.Fn.Kinds.{In}
 use borrow.Fn.PlainCycle.{Measures, is, falls, and}
 use Rattle.octets.specs.Run.{Tree, done, broken, tree, tried}
@@ -21,14 +23,13 @@ use Rattle.rfc6733.specs.Record.{kindOf, avps}
 use Rattle.rfc6733.proofs.Items.{sound}
 use Rattle.rfc6733.proofs.Alone.{some-tried}
 use Rattle.attribute.specs.Attributes.{dictionary}
-use Rattle.avp.specs.Front.{answerOf}
 use Rattle.avp.proofs.Fronts.{Turn, turn, stuck, here}
 use Rattle.count.specs.declared.Counted.the-variants.{Counts}
 use Rattle.count.specs.Counts.{countOf}
 use Rattle.count.proofs.Counts.{Known, was-deep, was-counts, within, Passed, none-passed, one-passed, then-deep, then-ends, one-plain, one-deep, one-group}
 use Rattle.count.proofs.Lent.{Own, own, Inside, inside}
-use Rattle.attribute.proofs.kind.Reads as kind-reads
-use Rattle.avp.proofs.AVP.head.Reads as head-reads
+use Rattle.attribute.proofs.is_grouped.Reads as is-grouped-reads
+use Rattle.avp.proofs.AVP.complete.Reads as complete-reads
 use Rattle.avp.proofs.AVP.header_size.Reads as header-size-reads
 use Rattle.count.proofs.count_avp.Reads as count-avp
 use Rattle.count.proofs.count_avp.Kinds as count-avp-kinds
@@ -60,7 +61,7 @@ count-run-below t = and 1 count-run-kinds.ps (falls 1 count-run-kinds.ps _<_ μ-
 -- ---- `count_avp`
 
 abbrev count-avp-calls : ℕ → count-avp-lts.Claims
-count-avp-calls t = (kind-reads.Asked, kind-reads.Learnt, header-size-reads.Asked, header-size-reads.Learnt, count-run-below t, count-run.Post)
+count-avp-calls t = (is-grouped-reads.Asked, is-grouped-reads.Learnt, header-size-reads.Asked, header-size-reads.Learnt, count-run-below t, count-run.Post)
 
 module _ (t : ℕ) where
   -- the function's entry, and a group entered
@@ -83,14 +84,14 @@ module _ (t : ℕ) where
   abbrev inner : Entry → Tree
   inner b = tree (avps (dictionary (b .args .reading))) (payload (bytes b))
 
-  -- its kind is the dictionary's
-  kind-is : (c : count-avp-lts.After-kind (count-avp-calls t) (count-avp-at t) count-avp.Post)
-      → let b = c .before .before in c .kind .result ≡ kindOf (dictionary (b .args .reading)) (bytes b)
+  -- it is a group by the dictionary
+  told : (c : count-avp-lts.After-is-grouped (count-avp-calls t) (count-avp-at t) count-avp.Post)
+      → let b = c .before .before in c .is-grouped .result ≡ eqb (kindOf (dictionary (b .args .reading)) (bytes b)) grouped
   unfolding kindOf
-  kind-is c = let h = here _ _ (c .before .before .pre .1 .0) in cc
+  told c = let h = here _ _ (c .before .before .pre .1 .0) in cc
 
   is-grouped : (e : Group) → kindOf (dictionary (entry e .args .reading)) (bytes (entry e)) ≡ grouped
-  is-grouped e = sym (kind-is (e .before)) ∙ e .if1 .left
+  is-grouped e = eqb-true _ _ (sym (told (e .before)) ∙ not-false _ (e .if1 .left))
 
   -- its payload is lent, and counted
   payload-lent : (c : count-avp-lts.After-header-size (count-avp-calls t) (count-avp-at t) count-avp.Post)
@@ -127,7 +128,9 @@ module _ (t : ℕ) where
       omega (arith, within (dictionary (b .args .reading)) (bytes b), b .good .1 .0 .0)
 
   count-avp-returns : count-avp-lts.Need-returns (count-avp-calls t) (count-avp-at t) count-avp.Post
-  count-avp-returns c = one-plain _ _ (c .before .before .before .pre .1 .1) _ (omega arith) (λ e. c .if1 .taken (kind-is (c .before) ∙ e))
+  count-avp-returns c =
+      one-plain _ _ (c .before .before .before .pre .1 .1) _ (omega arith)
+      (eqb-false _ _ (sym (told (c .before)) ∙ not-true _ (c .if1 .taken)))
 
   count-avp-returns-2 : count-avp-lts.Need-returns-2 (count-avp-calls t) (count-avp-at t) count-avp.Post
   count-avp-returns-2 c =
@@ -138,7 +141,7 @@ module _ (t : ℕ) where
 -- ---- `count_run`
 
 abbrev count-run-calls : ℕ → count-run-lts.Claims
-count-run-calls t = (head-reads.Asked, head-reads.Learnt, count-avp-below t, count-avp.Post)
+count-run-calls t = (complete-reads.Asked, complete-reads.Learnt, count-avp-below t, count-avp.Post)
 
 abbrev count-run-Inv-loop : count-run-lts.InvT-loop
 count-run-Inv-loop reading s left records₀ tried₀ at₀ records tried at =
@@ -174,16 +177,16 @@ module _ (t : ℕ) where
   some-left c = let l = c .before in omega (arith, length-drop (l .loop .at) (run l))
 
   -- there is no complete AVP at `at`
-  none-there : (c : count-run-lts.At-match-keys2 (count-run-calls t) (count-run-at t) count-run.Post count-run-Inv-loop count-run-μ-loop)
-      → let l = c .before .before .before .before .before in from l (l .loop .at) ≡ broken
+  none-there : (c : count-run-lts.After-enum-told (count-run-calls t) (count-run-at t) count-run.Post count-run-Inv-loop count-run-μ-loop)
+      → let l = c .before .before .before .before .before .before in from l (l .loop .at) ≡ broken
   none-there c =
-      let l = c .before .before .before .before .before in
-      tree-broken _ (sound _) _ (some-left (c .before .before .before .before))
-      (stuck (run l) (l .loop .at) _ (omega arith) (c .match .keys2) (c .before .head .ensures))
+      let l = c .before .before .before .before .before .before in
+      tree-broken _ (sound _) _ (some-left (c .before .before .before .before .before))
+      (stuck (run l) (l .loop .at) (omega arith) (sym (c .enum-told .given .1) ∙ c .before .before .complete .ensures))
 
   -- there is one; it is lent, and counted
   turned : (c : Found) → let l = loop c in Turn (run l) (l .loop .at) (c .before .before .a .given .0 .0)
-  turned c = let w = c .before .before in turn _ _ _ (omega arith) (ap answerOf (sym (w .a .given .1)) ∙ w .before .before .head .ensures)
+  turned c = let w = c .before .before in turn _ _ _ (omega arith) (sym (w .a .given .1) ∙ w .before .before .complete .ensures)
 
   own-lent : (c : Found)
       → let l = loop c in
@@ -209,12 +212,12 @@ module _ (t : ℕ) where
 
   count-run-add-t17 : count-run-lts.Need-add-t17 (count-run-calls t) (count-run-at t) count-run.Post count-run-Inv-loop count-run-μ-loop
   count-run-add-t17 c =
-      let l = c .before .before .before .before .before in
+      let l = c .before .before .before .before .before .before in
       omega (arith, ap tried (none-there c), fits l (l .loop .inv .1))
 
   count-run-returns-2 : count-run-lts.Need-returns-2 (count-run-calls t) (count-run-at t) count-run.Post count-run-Inv-loop count-run-μ-loop
   count-run-returns-2 c =
-      let l = c .before .before .before .before .before in
+      let l = c .before .before .before .before .before .before in
       then-ends (l .loop .inv .1) broken (none-there c) (omega arith) (omega arith) (omega arith)
 
   count-run-count-avp-requires : count-run-lts.Need-count-avp-requires (count-run-calls t) (count-run-at t) count-run.Post count-run-Inv-loop count-run-μ-loop
@@ -224,7 +227,7 @@ module _ (t : ℕ) where
   count-run-returns-3 c =
       let u = c .before .before .before .before in
       let j = own-lent u .split in
-      let d = was-deep _ _ (sym (c .enum-told .given .1) ∙ c .before .before .count-avp .ensures) in
+      let d = was-deep _ _ (sym (c .enum-told2 .given .1) ∙ c .before .before .count-avp .ensures) in
       then-deep (loop u .loop .inv .1) (omega arith)
 
   count-run-loop-again : count-run-lts.Need-loop-again (count-run-calls t) (count-run-at t) count-run.Post count-run-Inv-loop count-run-μ-loop
@@ -274,6 +277,7 @@ pub +count-avp+count-run-spec : {M : Type 1} → statement M
     (λ c. search needs)
     (λ c. search needs)
     (λ c κs. search needs)
+    (λ c. search needs)
     (λ c. search needs)
     (count-run-add-t17 t)
     (count-run-returns-2 t)

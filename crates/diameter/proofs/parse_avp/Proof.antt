@@ -12,7 +12,7 @@ use Rattle.rfc6733.specs.Decoder.{capacity, avpAlone, stored}
 use Rattle.rfc6733.proofs.Decoded.{alone-limit-under, alone-limit-over, front-refused}
 use Rattle.attribute.specs.Attributes.{dictionary}
 use Rattle.avp.specs.Front as front
-use Rattle.avp.proofs.Fronts.{was-whole, here}
+use Rattle.avp.proofs.Fronts.{was-accepted, here}
 use Rattle.diameter.specs.Answers.{avpAnswerOf}
 use Rattle.diameter.proofs.parse_avp.Statement.{statement}
 use Rattle.diameter.proofs.parse_avp.Tie as tie
@@ -37,7 +37,7 @@ returns-2 c = (alone-limit-over _ _ _ _ (omega arith), refl)
 parse-one-requires : tie.Need-parse-one-requires
 parse-one-requires c κs =
     let a = c .before .before in
-    let w = was-whole _ _ (ap front.answerOf (sym (a .a .given .1)) ∙ a .before .before .head .ensures) in
+    let w = was-accepted _ _ (ap front.answerOf (sym (a .a .given .1)) ∙ a .before .before .head .ensures) in
     (record { low = omega arith; high = omega arith }, record { whole = w .0; size-is = here _ _ (w .1) .size-is })
 
 returns-4 : tie.Need-returns-4

@@ -11,14 +11,4 @@ unfolding be
 returns c = record { is = omega arith; small = omega arith }
 
 pub be-u24-spec : {M : Type 1} → statement M
-be-u24-spec =
-    tie.close
-    (tie.spec
-    (λ c κs. search needs)
-    (λ c. search needs)
-    (λ c κs. search needs)
-    (λ c. search needs)
-    (λ c. search needs)
-    (λ c κs. search needs)
-    (λ c. search needs)
-    returns)
+be-u24-spec = tie.close (tie.spec (λ c κs. search needs) (λ c. search needs) (λ c κs. search needs) (λ c. search needs) returns)

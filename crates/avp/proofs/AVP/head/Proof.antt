@@ -1,86 +1,22 @@
--- `AVP::head` meets its contract: an AVP is complete exactly where its 8 bytes are there, its length counts its header, and its padded
--- size is there. These are the three tests; past them its fields are read, and before them `refusal` says which refusal is first.
+-- `AVP::head` meets its contract: a complete AVP is accepted with its fields, and of one that is not, `refusal` says which refusal is
+-- first.
 -- Assumes nothing.
-use Prim.Native.Nat.{ℕ}
-use mathlib.Core.Path.{refl}
-use mathlib.Core.List.{List}
-use native.Mathlib.Omega.{arith}
-use denote.Ref.{now}
+use mathlib.Core.Path.{sym, _∙_}
 use borrow.Author.Needs.{needs}
-use Rattle.rfc6733.proofs.Complete.{Whole}
-use Rattle.avp.proofs.Fields.{Stated, stated, Padded, padded, header-there, fields-are}
-use Rattle.avp.proofs.Refusals.{not-complete, whole}
+use Rattle.avp.proofs.Fronts.{was-whole, was-broken}
+use Rattle.avp.proofs.Refusals.{accepted-whole}
 use Rattle.avp.proofs.AVP.head.Statement.{statement}
 use Rattle.avp.proofs.AVP.head.Tie as tie
 
-abbrev input : tie.After-be-u24 → List ℕ
-input c = now (c .before .before .before .before .before .before .before .args .s)
-
--- ---- what was read is what the AVP states
-
-sizes-read : (c : tie.After-header-size-of) → Stated (input (c .before)) (c .before .be-u24 .result) (c .header-size-of .result)
-sizes-read c = stated _ _ _ (c .before .be-u24 .ensures) (c .header-size-of .ensures)
-
-padding-found : (c : tie.After-padding)
-    → let read = c .before .before .before in
-    Padded (input read) (read .be-u24 .result) (c .padding .result)
-padding-found c = padded _ _ _ _ (sizes-read (c .before .before)) (c .padding .ensures)
-
--- ---- past the three tests
-
-complete-there : (c : tie.Else3) → Whole (input (c .before .before .before .before))
-complete-there c =
-    let st = sizes-read (c .before .before .before) in
-    let p = padding-found (c .before) in
-    record { eight = omega arith; long = omega arith; room = omega arith }
-
--- ---- the needs
-
 refusal-requires : tie.Need-refusal-requires
-refusal-requires c κs = not-complete _ (λ w. omega arith)
+refusal-requires c κs = was-broken _ (sym (c .enum-told .given .1) ∙ c .before .before .complete .ensures)
 
-refusal-requires-2 : tie.Need-refusal-requires-2
-refusal-requires-2 c κs = let st = sizes-read (c .before) in not-complete _ (λ w. omega arith)
-
-add-size : tie.Need-add-size
-add-size c = omega (arith, padding-found c)
-
-refusal-requires-3 : tie.Need-refusal-requires-3
-refusal-requires-3 c κs = let p = padding-found (c .before) in not-complete _ (λ w. omega arith)
-
-vendor-id-requires : tie.Need-vendor-id-requires
-vendor-id-requires c κs = header-there _ (complete-there (c .before .before .before .before .before))
-
-returns-4 : tie.Need-returns-4
-returns-4 c =
-    let there = c .before .before .before .before .before .before in
-    let st = sizes-read (there .before .before .before) in
-    let p = padding-found (there .before) in
-    whole _ (complete-there there) _ (fields-are _ _ (c .before .be-u32 .ensures) refl (st .length-is) (c .vendor-id .ensures) (p .size-is))
+returns : tie.Need-returns
+returns c =
+    let was = was-whole _ _ (sym (c .before .a .given .1) ∙ c .before .before .before .complete .ensures) in
+    accepted-whole _ (was .0) _ (was .1)
 
 pub head-spec : {M : Type 1} → statement M
 head-spec =
     tie.close
-    (tie.spec
-    refusal-requires
-    (λ c. search needs)
-    (λ c. search needs)
-    (λ c. search needs)
-    (λ c. search needs)
-    (λ c. search needs)
-    (λ c κs. search needs)
-    (λ c. search needs)
-    (λ c κs. search needs)
-    refusal-requires-2
-    (λ c. search needs)
-    (λ c κs. search needs)
-    add-size
-    refusal-requires-3
-    (λ c. search needs)
-    (λ c. search needs)
-    (λ c. search needs)
-    (λ c. search needs)
-    (λ c. search needs)
-    (λ c κs. search needs)
-    vendor-id-requires
-    returns-4)
+    (tie.spec (λ c κs. search needs) (λ c. search needs) (λ c. search needs) refusal-requires returns (λ c. search needs))

@@ -16,15 +16,16 @@ use Rattle.rfc6733.specs.Flags.{join}
 use Rattle.rfc6733.specs.Record.{recordSize, avps}
 use Rattle.rfc6733.specs.Entered.{entered}
 use Rattle.attribute.specs.Attributes.{dictionary}
-use Rattle.avp.specs.Front.{answerOf}
 use Rattle.avp.proofs.Fronts.{Turn, turn, stuck}
+use Rattle.value.specs.Values.{Shows, newValue}
 use Rattle.diameter.specs.Fill.{Room}
 use Rattle.diameter.proofs.OwnBytes.{OwnBytes, own-bytes}
 use Rattle.diameter.proofs.Filling.{Filling, nothing-filled, never-stuck, all-filled, room-for-one, one-filled}
 use Rattle.diameter.proofs.OwnRecord.{lentData, Opened, opened, room-for-own, room-for-members, avp-written}
 use Rattle.diameter.proofs.OtherKinds.{other-address}
-use Rattle.diameter.proofs.Entering.{Group, a-group, no-members, members-written}
-use Rattle.avp.proofs.AVP.head.Reads as head
+use Rattle.diameter.proofs.Entering.{kind-found, Group, a-group, no-members, members-written}
+use Rattle.attribute.proofs.kind.Reads as table-kind
+use Rattle.avp.proofs.AVP.complete.Reads as complete
 use Rattle.avp.proofs.AVP.header_size.Reads as header-size
 use Rattle.flags.proofs.join.Reads as join-flags
 use Rattle.record.proofs.Record.put.Reads as put
@@ -50,45 +51,45 @@ use Rattle.diameter.proofs.fill.+read_avp+read_run+read_value.Tie.{clos
 -- What is left of the depth, and within a level the order of the calls. An empty group at the depth 64 is entered too, so a run may have
 -- the depth 65.
 
-abbrev μ-run : Measures 2 run-kinds.ps ℕ
-μ-run κs a = 3 * (65 - a .1 .1 .1 .0) + 2
+abbrev μ-run : Measures 3 run-kinds.ps ℕ
+μ-run κs a = 3 * (65 - a .1 .1 .1 .1 .0) + 2
 
-abbrev μ-avp : Measures 2 avp-kinds.ps ℕ
-μ-avp κs a = 3 * (65 - a .1 .1 .1 .1 .0) + 1
+abbrev μ-avp : Measures 3 avp-kinds.ps ℕ
+μ-avp κs a = 3 * (65 - a .1 .1 .1 .1 .1 .0) + 1
 
-abbrev μ-value : Measures 2 value-kinds.ps ℕ
-μ-value κs a = 3 * (65 - a .1 .1 .1 .1 .1 .0)
+abbrev μ-value : Measures 3 value-kinds.ps ℕ
+μ-value κs a = 3 * (65 - a .1 .1 .1 .1 .1 .1 .0)
 
-abbrev run-at : ℕ → In 2 run-kinds.ps
-run-at t = and 2 run-kinds.ps (is 2 run-kinds.ps μ-run t) run-reads.Pre
+abbrev run-at : ℕ → In 3 run-kinds.ps
+run-at t = and 3 run-kinds.ps (is 3 run-kinds.ps μ-run t) run-reads.Pre
 
-abbrev run-below : ℕ → In 2 run-kinds.ps
-run-below t = and 2 run-kinds.ps (falls 2 run-kinds.ps _<_ μ-run t) run-reads.Pre
+abbrev run-below : ℕ → In 3 run-kinds.ps
+run-below t = and 3 run-kinds.ps (falls 3 run-kinds.ps _<_ μ-run t) run-reads.Pre
 
-abbrev avp-at : ℕ → In 2 avp-kinds.ps
-avp-at t = and 2 avp-kinds.ps (is 2 avp-kinds.ps μ-avp t) avp-reads.Pre
+abbrev avp-at : ℕ → In 3 avp-kinds.ps
+avp-at t = and 3 avp-kinds.ps (is 3 avp-kinds.ps μ-avp t) avp-reads.Pre
 
-abbrev avp-below : ℕ → In 2 avp-kinds.ps
-avp-below t = and 2 avp-kinds.ps (falls 2 avp-kinds.ps _<_ μ-avp t) avp-reads.Pre
+abbrev avp-below : ℕ → In 3 avp-kinds.ps
+avp-below t = and 3 avp-kinds.ps (falls 3 avp-kinds.ps _<_ μ-avp t) avp-reads.Pre
 
-abbrev value-at : ℕ → In 2 value-kinds.ps
-value-at t = and 2 value-kinds.ps (is 2 value-kinds.ps μ-value t) value-reads.Pre
+abbrev value-at : ℕ → In 3 value-kinds.ps
+value-at t = and 3 value-kinds.ps (is 3 value-kinds.ps μ-value t) value-reads.Pre
 
-abbrev value-below : ℕ → In 2 value-kinds.ps
-value-below t = and 2 value-kinds.ps (falls 2 value-kinds.ps _<_ μ-value t) value-reads.Pre
+abbrev value-below : ℕ → In 3 value-kinds.ps
+value-below t = and 3 value-kinds.ps (falls 3 value-kinds.ps _<_ μ-value t) value-reads.Pre
 
 -- ---- the run
 
 abbrev run-calls : ℕ → run.Claims
-run-calls t = (head.Asked, head.Learnt, avp-below t, avp-reads.Post, join-flags.Asked, join-flags.Learnt)
+run-calls t = (complete.Asked, complete.Learnt, avp-below t, avp-reads.Post, join-flags.Asked, join-flags.Learnt)
 
 abbrev Inv-loop : run.InvT-loop
-Inv-loop reading s place depth store₀ at₀ n₀ errors₀ store at n errors =
+Inv-loop reading kinds s place depth store₀ at₀ n₀ errors₀ store at n errors =
     let D = dictionary reading in
     (at ≤ length s) × Filling D (tree (avps D) s) (tree (avps D) (drop at s)) place (place + at) depth n errors store₀ store
 
 abbrev μ-loop : run.MeasureT-loop
-μ-loop reading s place depth store₀ at₀ n₀ errors₀ store at n errors = length s - at
+μ-loop reading kinds s place depth store₀ at₀ n₀ errors₀ store at n errors = length s - at
 
 module _ (t : ℕ) where
   -- the loop, from a turn of it; and the entry
@@ -97,12 +98,12 @@ module _ (t : ℕ) where
   run-loop c = c .before .before .before .before .before .before .before
 
   abbrev run-start : run.At-loop (run-calls t) (run-at t) run-reads.Post Inv-loop μ-loop → run.Start (run-calls t) (run-at t) run-reads.Post Inv-loop μ-loop
-  run-start c = c .before .before .before
+  run-start c = c .before .before .before .before
 
   -- the AVP at `at`
   run-turn : (c : run.After-struct-known (run-calls t) (run-at t) run-reads.Post Inv-loop μ-loop)
       → let l = run-loop c in Turn (now (run-start l .args .s)) (l .loop .at) (c .before .before .a .given .0 .0)
-  run-turn c = let w = c .before .before in turn _ _ _ (omega arith) (ap answerOf (sym (w .a .given .1)) ∙ w .before .before .head .ensures)
+  run-turn c = let w = c .before .before in turn _ _ _ (omega arith) (sym (w .a .given .1) ∙ w .before .before .complete .ensures)
 
   -- its own bytes
   run-own : (c : run.After-struct-known (run-calls t) (run-at t) run-reads.Post Inv-loop μ-loop)
@@ -115,7 +116,7 @@ module _ (t : ℕ) where
   -- the records so far are within the store
   run-within : (c : run.At-loop (run-calls t) (run-at t) run-reads.Post Inv-loop μ-loop)
       → c .loop .n * recordSize ≤ length (c .loop .store)
-  run-within c = omega (arith, run-start c .pre .1 .1, c .loop .inv .1)
+  run-within c = omega (arith, run-start c .pre .1 .1 .0, c .loop .inv .1)
 
   -- what has been written, with the AVP at `at`
   run-filled : (c : run.After-read-avp (run-calls t) (run-at t) run-reads.Post Inv-loop μ-loop)
@@ -128,11 +129,11 @@ module _ (t : ℕ) where
       let one = c .read-avp .result in
       Filling D (tree (avps D) (now (b .args .s))) (tree (avps D) (drop next (now (b .args .s)))) (b .args .place) (b .args .place + next) (b .args .depth)
       (l .loop .n + one .records) (join (l .loop .errors) (one .errors)) (now (b .args .store))
-      (putMid size (length (l .loop .store) - size) (l .loop .store) (c .read-avp .last .1 .1 .1 .1 .1 .0))
+      (putMid size (length (l .loop .store) - size) (l .loop .store) (c .read-avp .last .1 .1 .1 .1 .1 .1 .0))
   run-filled c =
       let k = c .before .before .before in
       let l = run-loop k in
-      one-filled (run-start l .pre .1 .1) (l .loop .inv .1) (run-own k) (c .read-avp .ensures)
+      one-filled (run-start l .pre .1 .1 .0) (l .loop .inv .1) (run-own k) (c .read-avp .ensures)
 
   -- ---- its needs
 
@@ -141,9 +142,9 @@ module _ (t : ℕ) where
 
   run-returns : run.Need-returns (run-calls t) (run-at t) run-reads.Post Inv-loop μ-loop
   run-returns c =
-      let l = c .before .before .before .before in
+      let l = c .before .before .before .before .before in
       let s = now (run-start l .args .s) in
-      let none = stuck s (l .loop .at) _ (omega arith) (c .match .keys2) (c .before .head .ensures) in
+      let none = stuck s (l .loop .at) (omega arith) (sym (c .enum-told .given .1) ∙ c .before .before .complete .ensures) in
       absurd (never-stuck s (l .loop .at) (l .loop .inv .1) (run-start l .pre .1 .0) (omega arith) none)
 
   run-add-next : run.Need-add-next (run-calls t) (run-at t) run-reads.Post Inv-loop μ-loop
@@ -156,7 +157,7 @@ module _ (t : ℕ) where
   run-part-read-avp-end c = omega (arith, run-turn c)
 
   run-add-read-avp : run.Need-add-read-avp (run-calls t) (run-at t) run-reads.Post Inv-loop μ-loop
-  run-add-read-avp c = omega (arith, run-start (run-loop (c .before)) .pre .1 .1)
+  run-add-read-avp c = omega (arith, run-start (run-loop (c .before)) .pre .1 .1 .0)
 
   run-mul-read-avp : run.Need-mul-read-avp (run-calls t) (run-at t) run-reads.Post Inv-loop μ-loop
   run-mul-read-avp c = omega (arith, run-within (run-loop (c .before)))
@@ -173,12 +174,12 @@ module _ (t : ℕ) where
       let l = run-loop k in
       let b = run-start l in
       let o = run-own k in
-      (omega (arith, b .pre), ((o .is, o .exact), room-for-one (b .pre .1 .1) (l .loop .inv .1) o (run-turn k .fits)))
+      (omega (arith, b .pre), ((o .is, o .exact), (room-for-one (b .pre .1 .1 .0) (l .loop .inv .1) o (run-turn k .fits), b .pre .1 .1 .1)))
 
   run-add-n : run.Need-add-n (run-calls t) (run-at t) run-reads.Post Inv-loop μ-loop
   run-add-n c =
       let b = run-start (run-loop (c .before .before .before .before .before .before)) in
-      omega (arith, run-filled (c .before .before .before), b .pre .1 .1, b .good)
+      omega (arith, run-filled (c .before .before .before), b .pre .1 .1 .0, b .good)
 
   run-loop-less : run.Need-loop-less (run-calls t) (run-at t) run-reads.Post Inv-loop μ-loop
   run-loop-less c = omega (arith, run-turn (c .before .before .before .before .before .before .before))
@@ -212,7 +213,7 @@ avp-calls t = (
 module _ (t : ℕ) where
   -- the entry, from the place where the size of the header is known; and that place, from the later ones
   abbrev avp-start : avp.After-header-size (avp-calls t) (avp-at t) avp-reads.Post → avp.Start (avp-calls t) (avp-at t) avp-reads.Post
-  avp-start c = c .before .before .before
+  avp-start c = c .before .before .before .before
 
   abbrev avp-from-pads : avp.After-slice-known2 (avp-calls t) (avp-at t) avp-reads.Post → avp.After-header-size (avp-calls t) (avp-at t) avp-reads.Post
   avp-from-pads c = c .before .before .before .before .before
@@ -231,7 +232,7 @@ module _ (t : ℕ) where
   -- there is room for its own record
   avp-room : (c : avp.After-header-size (avp-calls t) (avp-at t) avp-reads.Post)
       → recordSize ≤ length (now (avp-start c .args .store))
-  avp-room c = let b = avp-start c in room-for-own _ (avp-opened c) (b .pre .1 .0 .1) (b .pre .1 .1)
+  avp-room c = let b = avp-start c in room-for-own _ (avp-opened c) (b .pre .1 .0 .1) (b .pre .1 .1 .0)
 
   -- and for its members', whose places and depths fit too
   avp-inside : (c : avp.After-header-size (avp-calls t) (avp-at t) avp-reads.Post)
@@ -242,7 +243,7 @@ module _ (t : ℕ) where
       let store = now (b .args .store) in
       Room (entered (dictionary (b .args .reading)) (a .code) (a .«vendor_id») body) (b .args .place + from) (length body) (b .args .depth + 1)
       (length (take (length store - recordSize) (drop recordSize store)))
-  avp-inside c = let b = avp-start c in room-for-members _ (avp-opened c) (b .pre .1 .0 .1) (now (b .args .store)) (b .pre .1 .1)
+  avp-inside c = let b = avp-start c in room-for-members _ (avp-opened c) (b .pre .1 .0 .1) (now (b .args .store)) (b .pre .1 .1 .0)
 
   -- ---- its needs
 
@@ -265,7 +266,7 @@ module _ (t : ℕ) where
   avp-part-read-value-start-2 c = omega (arith, avp-room (c .before))
 
   avp-read-value-requires : avp.Need-read-value-requires (avp-calls t) (avp-at t) avp-reads.Post
-  avp-read-value-requires c κs = let h = c .before .before in (omega (arith, avp-start h .pre), avp-inside h)
+  avp-read-value-requires c κs = let h = c .before .before in (omega (arith, avp-start h .pre), (avp-inside h, avp-start h .pre .1 .1 .1))
 
   avp-sub-pads : avp.Need-sub-pads (avp-calls t) (avp-at t) avp-reads.Post
   avp-sub-pads c = omega (arith, avp-opened (avp-from-pads c))
@@ -276,20 +277,20 @@ module _ (t : ℕ) where
   avp-pads-requires : avp.Need-pads-requires (avp-calls t) (avp-at t) avp-reads.Post
   avp-pads-requires c κs = omega (arith, avp-opened (avp-from-pads (c .before)))
 
-  avp-cast-t26 : avp.Need-cast-t26 (avp-calls t) (avp-at t) avp-reads.Post
-  avp-cast-t26 c = let h = avp-from-join c in omega (arith, avp-opened h, avp-inside h)
-
-  avp-add-t18 : avp.Need-add-t18 (avp-calls t) (avp-at t) avp-reads.Post
-  avp-add-t18 c = omega (arith, avp-inside (avp-from-join c))
-
   avp-cast-t27 : avp.Need-cast-t27 (avp-calls t) (avp-at t) avp-reads.Post
-  avp-cast-t27 c = omega (arith, avp-inside (avp-from-join c))
+  avp-cast-t27 c = let h = avp-from-join c in omega (arith, avp-opened h, avp-inside h)
 
-  avp-sub-t16 : avp.Need-sub-t16 (avp-calls t) (avp-at t) avp-reads.Post
-  avp-sub-t16 c = omega (arith, avp-opened (avp-from-join (c .before)))
+  avp-add-t19 : avp.Need-add-t19 (avp-calls t) (avp-at t) avp-reads.Post
+  avp-add-t19 c = omega (arith, avp-inside (avp-from-join c))
 
-  avp-cast-t24 : avp.Need-cast-t24 (avp-calls t) (avp-at t) avp-reads.Post
-  avp-cast-t24 c = omega (arith, avp-opened (avp-from-join (c .before)))
+  avp-cast-t28 : avp.Need-cast-t28 (avp-calls t) (avp-at t) avp-reads.Post
+  avp-cast-t28 c = omega (arith, avp-inside (avp-from-join c))
+
+  avp-sub-t17 : avp.Need-sub-t17 (avp-calls t) (avp-at t) avp-reads.Post
+  avp-sub-t17 c = omega (arith, avp-opened (avp-from-join (c .before)))
+
+  avp-cast-t25 : avp.Need-cast-t25 (avp-calls t) (avp-at t) avp-reads.Post
+  avp-cast-t25 c = omega (arith, avp-opened (avp-from-join (c .before)))
 
   avp-returns : avp.Need-returns (avp-calls t) (avp-at t) avp-reads.Post
   avp-returns c =
@@ -298,37 +299,48 @@ module _ (t : ℕ) where
       let p = o .before in
       let h = avp-from-join j in
       let b = avp-start h in
-      avp-written _ (avp-opened h) (b .pre .1 .0 .1) (b .pre .1 .1) (p .before .before .before .before .read-value .ensures) (p .pads .ensures)
+      avp-written _ (avp-opened h) (b .pre .1 .0 .1) (b .pre .1 .1 .0) (p .before .before .before .before .read-value .ensures) (p .pads .ensures)
       (o .own-errors .ensures) (j .join .ensures) (c .before .before .before .put .ensures .1)
 
-  avp-add-t13 : avp.Need-add-t13 (avp-calls t) (avp-at t) avp-reads.Post
-  avp-add-t13 c = let b = avp-start (avp-from-join (avp-end-join c)) in omega (arith, avp-returns c .count-is, b .pre .1 .1, b .good)
+  avp-add-t14 : avp.Need-add-t14 (avp-calls t) (avp-at t) avp-reads.Post
+  avp-add-t14 c = let b = avp-start (avp-from-join (avp-end-join c)) in omega (arith, avp-returns c .count-is, b .pre .1 .1 .0, b .good)
 
 -- ---- the value
 
 abbrev value-calls : ℕ → value.Claims
-value-calls t = (new.Asked, new.Learnt, kind.Asked, kind.Learnt, run-below t, run-reads.Post, number.Asked, number.Learnt)
+value-calls t = (table-kind.Asked, table-kind.Learnt, new.Asked, new.Learnt, kind.Asked, kind.Learnt, run-below t, run-reads.Post, number.Asked, number.Learnt)
 
 module _ (t : ℕ) where
+  -- the value is that of the dictionary's kind
+  value-shown : (c : value.After-kind2 (value-calls t) (value-at t) value-reads.Post)
+      → let b = c .before .before .before .before .before .before in
+      let D = dictionary (b .args .reading) in
+      Shows (newValue D (D .kind (b .args .code) (b .args .vendor)) (now (b .args .«data»))) (now (b .args .«data»)) (c .before .new .result)
+  value-shown c =
+      let b = c .before .before .before .before .before .before in
+      let a = b .args in
+      let k = c .before .before .kind in
+      rw (kind-found (a .reading) (now (a .kinds)) (a .code) (a .vendor) (k .result) (b .pre .1 .1) (k .ensures)) at (c .before .new .ensures)
+
   -- a value that is Grouped is entered
   value-group : (c : value.Then1 (value-calls t) (value-at t) value-reads.Post)
-      → let b = c .before .before .before .before .before in
+      → let b = c .before .before .before .before .before .before .before in
       Group (dictionary (b .args .reading)) (b .args .code) (b .args .vendor) (now (b .args .«data»))
   value-group c =
       let k = c .before in
-      let b = k .before .before .before .before in
-      a-group (k .before .new .ensures) (other-address (b .args .reading) _) (sym (k .kind .ensures) ∙ c .if1 .taken)
+      let b = k .before .before .before .before .before .before in
+      a-group (value-shown k) (other-address (b .args .reading) _) (sym (k .kind2 .ensures) ∙ c .if1 .taken)
 
   -- ---- its needs
 
   value-add-read-run : value.Need-add-read-run (value-calls t) (value-at t) value-reads.Post
-  value-add-read-run c = omega (arith, c .before .before .before .before .before .pre .1)
+  value-add-read-run c = omega (arith, c .before .before .before .before .before .before .before .pre .1 .0)
 
   value-read-run-requires : value.Need-read-run-requires (value-calls t) (value-at t) value-reads.Post
   value-read-run-requires c κs =
       let g = value-group (c .before) in
-      let b = c .before .before .before .before .before .before in
-      (omega (arith, b .pre), (g .tiles-is, rw (g .entered-is) at (b .pre .1)))
+      let b = c .before .before .before .before .before .before .before .before in
+      (omega (arith, b .pre), (g .tiles-is, (rw (g .entered-is) at (b .pre .1 .0), b .pre .1 .1)))
 
   value-returns : value.Need-returns (value-calls t) (value-at t) value-reads.Post
   value-returns c =
@@ -338,7 +350,7 @@ module _ (t : ℕ) where
   value-returns-2 : value.Need-returns-2 (value-calls t) (value-at t) value-reads.Post
   value-returns-2 c =
       let k = c .before .before in
-      no-members (k .before .new .ensures) (λ e. c .before .if1 .left (k .kind .ensures ∙ e)) (k .kind .ensures) (c .number .ensures)
+      no-members (value-shown k) (λ e. c .before .if1 .left (k .kind2 .ensures ∙ e)) (k .kind2 .ensures) (c .number .ensures)
 
 pub +read-avp+read-run+read-value-spec : {M : Type 1} → statement M
 +read-avp+read-run+read-value-spec =
@@ -360,13 +372,13 @@ pub +read-avp+read-run+read-value-spec : {M : Type 1} → statement M
     (avp-pads-requires t)
     (λ c κs. search needs)
     (λ c κs. search needs)
-    (avp-cast-t26 t)
-    (avp-add-t18 t)
     (avp-cast-t27 t)
-    (avp-sub-t16 t)
-    (avp-cast-t24 t)
+    (avp-add-t19 t)
+    (avp-cast-t28 t)
+    (avp-sub-t17 t)
+    (avp-cast-t25 t)
     (λ c κs. search needs)
-    (avp-add-t13 t)
+    (avp-add-t14 t)
     (λ c. search needs)
     (avp-returns t))
     (λ t.
@@ -376,6 +388,7 @@ pub +read-avp+read-run+read-value-spec : {M : Type 1} → statement M
     (λ c. search needs)
     (λ c. search needs)
     (λ c κs. search needs)
+    (λ c. search needs)
     (λ c. search needs)
     (λ c. search needs)
     (run-returns t)
@@ -397,6 +410,7 @@ pub +read-avp+read-run+read-value-spec : {M : Type 1} → statement M
     (run-returns-2 t))
     (λ t.
     value.spec (value-calls t) (value-at t) value-reads.Post
+    (λ c κs. search needs)
     (λ c κs. search needs)
     (λ c κs. search needs)
     (value-add-read-run t)

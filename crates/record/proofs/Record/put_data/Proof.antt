@@ -10,8 +10,7 @@ returns : tie.Need-returns
 unfolding octets recordAs
 returns c =
     let value = c .before .before in
-    let zero = value .before .before .before .before in
-    let pads = zero .before .before .before .before in
+    let pads = value .before .before .before .before in
     let padding = pads .before .before .before .before in
     let errors = padding .before .before .before .before in
     let kind = errors .before .before .before .before in
@@ -19,8 +18,7 @@ returns c =
     let place = depth .before .before .before .before in
     rw (
       value .put-u64 .ensures,
-      zero .put-u85 .ensures,
-      pads .put-u24 .ensures,
+      pads .put-u24-u8 .ensures,
       padding .put-u84 .ensures,
       errors .put-u83 .ensures,
       kind .put-u82 .ensures,
@@ -32,7 +30,6 @@ pub put-data-spec : {M : Type 1} → statement M
 put-data-spec =
     tie.close
     (tie.spec
-    (λ c κs. search needs)
     (λ c κs. search needs)
     (λ c κs. search needs)
     (λ c κs. search needs)

@@ -10,18 +10,11 @@ returns : tie.Need-returns
 unfolding octets recordAs
 returns c =
     let vendor = c .before .before in
-    let length = vendor .before .before .before .before in
-    let flags = length .before .before .before .before in
+    let flags = vendor .before .before .before .before in
     let code = flags .before .before .before .before in
-    rw (vendor .put-u322 .ensures, length .put-u24 .ensures, flags .put-u8 .ensures, code .put-u32 .ensures)
+    rw (vendor .put-u322 .ensures, flags .put-u8-u24 .ensures, code .put-u32 .ensures)
 
 pub put-header-spec : {M : Type 1} → statement M
 put-header-spec =
     tie.close
-    (tie.spec
-    (λ c κs. search needs)
-    (λ c κs. search needs)
-    (λ c κs. search needs)
-    (λ c κs. search needs)
-    (λ c. search needs)
-    returns)
+    (tie.spec (λ c κs. search needs) (λ c κs. search needs) (λ c κs. search needs) (λ c. search needs) returns)

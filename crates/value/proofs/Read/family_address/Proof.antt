@@ -6,13 +6,13 @@ use denote.Ref.{now}
 use borrow.Author.Needs.{needs}
 use Rattle.octets.specs.Octets.{be}
 use Rattle.octets.proofs.Numbers.{read-at}
-use Rattle.value.proofs.Addresses.{family-is, no-family, family-v4, family-v4-size, family-v6, family-v6-size, other-family}
+use Rattle.value.proofs.Addresses.{no-family, family-v4, family-v4-size, family-v6, family-v6-size, other-family}
 use Rattle.value.proofs.Read.family_address.Statement.{statement}
 use Rattle.value.proofs.Read.family_address.Tie as tie
 
 -- the family that the code has read is the one that the data begin with
-family : (c : tie.After-be-u24) → c .be-u24 .result ≡ be 2 (now (c .before .before .before .before .before .args .«data»)) 0
-family c = family-is _ _ (c .be-u24 .ensures)
+family : (c : tie.After-be-u16) → c .be-u16 .result ≡ be 2 (now (c .before .before .before .before .before .args .«data»)) 0
+family c = read-at 2 _ 0 _ (c .be-u16 .ensures)
 
 returns : tie.Need-returns
 returns c = no-family _ _ (omega arith) (c .unhandled .ensures)

@@ -1,15 +1,15 @@
 -- `Value::new` meets its contract: at each kind the definition has one form, and the arm of that kind reads it. What no arm names is
--- Unhandled, since no dictionary has a kind above Time.
+-- Unhandled.
 -- Assumes nothing.
-use mathlib.Core.Path.{refl}
+use mathlib.Core.Path.{refl, ap}
 use mathlib.Core.Logic.{inl, inr}
-use native.Mathlib.Omega.{arith}
 use borrow.Author.Needs.{needs}
 use Rattle.rfc6733.specs.Dictionary.{sawp, rfc}
+use Rattle.rfc6733.proofs.Listed.{one-of}
 use Rattle.attribute.specs.Attributes.{dictionary}
 use Rattle.value.specs.declared.Value.the-variants.{UTF8String, DiameterIdentity, DiameterURI}
-use Rattle.value.specs.Values.{kinds32, kinds64}
-use Rattle.value.proofs.KnownKinds.{one-of, none-left, kind-at-most}
+use Rattle.value.specs.Values.{kinds32, kinds64, known}
+use Rattle.value.proofs.KnownKinds.{none-known}
 use Rattle.value.proofs.NewValue.{octet-string, not-handled, number-32, number-64, text-kind, group-kind, address-kind}
 use Rattle.value.proofs.Value.new.Statement.{statement}
 use Rattle.value.proofs.Value.new.Tie as tie
@@ -21,62 +21,49 @@ fixed-64-requires : tie.Need-fixed-64-requires
 fixed-64-requires c κs = one-of kinds64 _ (c .match .keys3)
 
 returns : tie.Need-returns
-returns c =
-    let k = c .before .before .kind .ensures in
-    octet-string _ _ _ _ _ k _ (c .before .match .keys1) (c .good2 .ensures)
+returns c = octet-string _ _ _ _ (c .before .match .keys1) (c .good2 .ensures)
 
 returns-2 : tie.Need-returns-2
-returns-2 c = number-32 _ _ _ _ _ (c .before .before .kind .ensures) _ (c .before .match .keys2) (c .fixed-32 .ensures)
+returns-2 c = number-32 _ _ _ _ (c .before .match .keys2) (c .fixed-32 .ensures)
 
 returns-3 : tie.Need-returns-3
-returns-3 c = number-64 _ _ _ _ _ (c .before .before .kind .ensures) _ (c .before .match .keys3) (c .fixed-64 .ensures)
+returns-3 c = number-64 _ _ _ _ (c .before .match .keys3) (c .fixed-64 .ensures)
 
 returns-4 : tie.Need-returns-4
-returns-4 c =
-    let k = c .before .before .before .kind .ensures in
-    group-kind _ _ _ _ _ k _ _ (c .before .before .match .keys4) (c .tested .ensures) (c .before .tiles .ensures)
+returns-4 c = group-kind _ _ _ _ _ (c .before .before .match .keys4) (c .tested .ensures) (c .before .tiles .ensures)
 
 returns-5 : tie.Need-returns-5
 returns-5 c =
-    let k = c .before .before .before .kind .ensures in
-    text-kind _ _ _ _ _ k _ _ UTF8String (c .before .before .match .keys5) (c .tested2 .ensures)
+    text-kind _ _ (c .before .before .before .before .args .kind) _ _ UTF8String (ap known (c .before .before .match .keys5)) (c .tested2 .ensures)
     (inl refl) refl (c .before .is-utf8 .ensures)
 
 returns-6 : tie.Need-returns-6
 returns-6 c =
-    let k = c .before .before .before .kind .ensures in
-    text-kind _ _ _ _ _ k _ _ DiameterIdentity (c .before .before .match .keys6) (c .tested3 .ensures)
+    text-kind _ _ (c .before .before .before .before .args .kind) _ _ DiameterIdentity (ap known (c .before .before .match .keys6)) (c .tested3 .ensures)
     (inr (inl refl)) refl (c .before .is-utf82 .ensures)
 
 returns-7 : tie.Need-returns-7
 returns-7 c =
-    let k = c .before .before .before .kind .ensures in
-    text-kind _ _ _ _ _ k _ _ DiameterURI (c .before .before .match .keys7) (c .tested4 .ensures)
+    text-kind _ _ (c .before .before .before .before .args .kind) _ _ DiameterURI (ap known (c .before .before .match .keys7)) (c .tested4 .ensures)
     (inr (inr refl)) refl (c .before .is-utf83 .ensures)
 
 returns-8 : tie.Need-returns-8
 unfolding dictionary sawp
 returns-8 c =
-    let m = c .before .before .before in
-    address-kind _ _ _ _ _ (m .before .kind .ensures) _ (m .match .keys8)
+    address-kind _ _ _ _ (c .before .before .before .match .keys8)
     (rw (c .before .enum-told .given .1) (c .bare-address .ensures))
 
 returns-9 : tie.Need-returns-9
 unfolding dictionary rfc
 returns-9 c =
-    let m = c .before .before .before in
-    address-kind _ _ _ _ _ (m .before .kind .ensures) _ (m .match .keys8)
+    address-kind _ _ _ _ (c .before .before .before .match .keys8)
     (rw (c .before .enum-told2 .given .1) (c .family-address .ensures))
 
 returns-10 : tie.Need-returns-10
 returns-10 c =
-    let k = c .before .before .kind .ensures in
-    let a = c .before .before .before .before .args in
-    let most = kind-at-most (a .reading) (a .code) (a .vendor) in
     let rest = c .before .match .rest in
-    not-handled _ _ _ _ _ k _
-    (none-left
-    (omega arith)
+    not-handled _ _ (c .before .before .before .args .kind) _
+    (none-known
     (rest .0 .0 .0 .0 .0 .0 .0 .1)
     (rest .0 .0 .0 .0 .0 .0 .1)
     (rest .0 .0 .0 .0 .0 .1)
@@ -91,7 +78,6 @@ pub new-spec : {M : Type 1} → statement M
 new-spec =
     tie.close
     (tie.spec
-    (λ c κs. search needs)
     (λ c κs. search needs)
     fixed-32-requires
     fixed-64-requires

@@ -1,0 +1,83 @@
+-- `AVP::complete` meets its contract: an AVP is complete exactly where its 8 bytes are there, its length counts its header, and its
+-- padded size is there. These are the three tests, and past them its fields are read.
+-- Assumes nothing.
+use Prim.Native.Nat.{ℕ}
+use mathlib.Core.Path.{refl}
+use mathlib.Core.List.{List}
+use native.Mathlib.Omega.{arith}
+use denote.Ref.{now}
+use borrow.Author.Needs.{needs}
+use Rattle.rfc6733.proofs.Complete.{Whole}
+use Rattle.avp.proofs.Fields.{Stated, stated, Padded, padded, header-there, fields-are}
+use Rattle.avp.proofs.Refusals.{not-complete, broken, whole}
+use Rattle.avp.proofs.AVP.complete.Statement.{statement}
+use Rattle.avp.proofs.AVP.complete.Tie as tie
+
+abbrev input : tie.After-be-u24 → List ℕ
+input c = now (c .before .before .before .before .before .before .before .args .s)
+
+-- ---- what was read is what the AVP states
+
+sizes-read : (c : tie.After-header-size-of) → Stated (input (c .before)) (c .before .be-u24 .result) (c .header-size-of .result)
+sizes-read c = stated _ _ _ (c .before .be-u24 .ensures) (c .header-size-of .ensures)
+
+padding-found : (c : tie.After-padding)
+    → let read = c .before .before .before in
+    Padded (input read) (read .be-u24 .result) (c .padding .result)
+padding-found c = padded _ _ _ _ (sizes-read (c .before .before)) (c .padding .ensures)
+
+-- ---- past the three tests
+
+complete-there : (c : tie.Else3) → Whole (input (c .before .before .before .before))
+complete-there c =
+    let st = sizes-read (c .before .before .before) in
+    let p = padding-found (c .before) in
+    record { eight = omega arith; long = omega arith; room = omega arith }
+
+-- ---- the needs
+
+returns : tie.Need-returns
+returns c = broken _ (not-complete _ (λ w. omega arith))
+
+returns-2 : tie.Need-returns-2
+returns-2 c = let st = sizes-read (c .before) in broken _ (not-complete _ (λ w. omega arith))
+
+add-size : tie.Need-add-size
+add-size c = omega (arith, padding-found c)
+
+returns-3 : tie.Need-returns-3
+returns-3 c = let p = padding-found (c .before) in broken _ (not-complete _ (λ w. omega arith))
+
+vendor-id-requires : tie.Need-vendor-id-requires
+vendor-id-requires c κs = header-there _ (complete-there (c .before .before .before .before .before))
+
+returns-4 : tie.Need-returns-4
+returns-4 c =
+    let there = c .before .before .before .before .before .before in
+    let st = sizes-read (there .before .before .before) in
+    let p = padding-found (there .before) in
+    whole _ (complete-there there) _ (fields-are _ _ (c .before .be-u32 .ensures) refl (st .length-is) (c .vendor-id .ensures) (p .size-is))
+
+pub complete-spec : {M : Type 1} → statement M
+complete-spec =
+    tie.close
+    (tie.spec
+    returns
+    (λ c. search needs)
+    (λ c. search needs)
+    (λ c. search needs)
+    (λ c. search needs)
+    (λ c κs. search needs)
+    (λ c. search needs)
+    (λ c κs. search needs)
+    returns-2
+    (λ c κs. search needs)
+    add-size
+    returns-3
+    (λ c. search needs)
+    (λ c. search needs)
+    (λ c. search needs)
+    (λ c. search needs)
+    (λ c κs. search needs)
+    vendor-id-requires
+    returns-4)
