@@ -1,0 +1,135 @@
+//! The unsafe boundary: the six functions of the proved library, and one safe wrapper for each. No other file may have `unsafe`.
+//!
+//! The declarations are those of `crates/tandrekily/src/lib.rt`. What every call below relies on:
+//!
+//! - A slice is passed as two arguments, its pointer and its length. Both come from one Rust slice, so the bytes are there for the
+//!   whole call. The pointer of an empty slice points to nothing, and with a length of 0 nothing is read or written through it.
+//! - The functions are proved for all arguments of these types, so nothing is asked of the bytes or the numbers. They write only
+//!   to what they take as `&mut`, keep no pointer after the call, and don't unwind.
+//! - What is lent as `*mut` comes from `&mut`, so by Rust's own rules nothing else that is passed overlaps it.
+//! - `bool` is C's, and `true` and `false` are its only two values in either direction.
+//! - The archive is for x86-64 with pointers of 64 bits. No linker joins it to a program for another machine.
+
+/// The numbers of a result, in the order in which [`Answer::of`](crate::answer::Answer::of) takes them apart.
+pub type Numbers = [u64; 13];
+
+/// A result before the call. The library writes all of it.
+const NOTHING: Numbers = [0; 13];
+
+extern "C" {
+    fn tandrekily_message(
+        rfc: bool,
+        limit: usize,
+        input: *const u8,
+        input_len: usize,
+        store: *mut u8,
+        store_len: usize,
+        result: *mut Numbers,
+    );
+
+    fn tandrekily_header(input: *const u8, input_len: usize, result: *mut Numbers);
+
+    fn tandrekily_avp(
+        rfc: bool,
+        limit: usize,
+        input: *const u8,
+        input_len: usize,
+        store: *mut u8,
+        store_len: usize,
+        result: *mut Numbers,
+    );
+
+    fn tandrekily_write(
+        flags: u8,
+        code: u32,
+        app_id: u32,
+        hop_id: u32,
+        end_id: u32,
+        table: *const u8,
+        table_len: usize,
+        pool: *const u8,
+        pool_len: usize,
+        out: *mut u8,
+        out_len: usize,
+        result: *mut Numbers,
+    );
+
+    fn tandrekily_is_utf8(text: *const u8, text_len: usize) -> bool;
+
+    fn tandrekily_unix_seconds(time: u32) -> i64;
+}
+
+pub fn message(rfc: bool, limit: usize, input: &[u8], store: &mut [u8]) -> Numbers {
+    let mut result = NOTHING;
+    // SAFETY: `input` and `store` are two live slices, the second of them exclusive, so they don't overlap; `result` is 13 numbers
+    // of this frame. Any limit is answered.
+    unsafe {
+        tandrekily_message(
+            rfc,
+            limit,
+            input.as_ptr(),
+            input.len(),
+            store.as_mut_ptr(),
+            store.len(),
+            &mut result,
+        );
+    }
+    result
+}
+
+pub fn header(input: &[u8]) -> Numbers {
+    let mut result = NOTHING;
+    // SAFETY: `input` is a live slice, which is only read; `result` is 13 numbers of this frame.
+    unsafe { tandrekily_header(input.as_ptr(), input.len(), &mut result) };
+    result
+}
+
+pub fn avp(rfc: bool, limit: usize, input: &[u8], store: &mut [u8]) -> Numbers {
+    let mut result = NOTHING;
+    // SAFETY: as for `message`, whose arguments these are.
+    unsafe {
+        tandrekily_avp(
+            rfc,
+            limit,
+            input.as_ptr(),
+            input.len(),
+            store.as_mut_ptr(),
+            store.len(),
+            &mut result,
+        );
+    }
+    result
+}
+
+pub fn write(fields: crate::Fields, table: &[u8], pool: &[u8], out: &mut [u8]) -> Numbers {
+    let mut result = NOTHING;
+    // SAFETY: `table` and `pool` are live slices, which are only read and so may overlap; `out` is exclusive and overlaps neither;
+    // `result` is 13 numbers of this frame. Any table is answered, whatever its places and lengths say.
+    unsafe {
+        tandrekily_write(
+            fields.flags,
+            fields.code,
+            fields.app_id,
+            fields.hop_id,
+            fields.end_id,
+            table.as_ptr(),
+            table.len(),
+            pool.as_ptr(),
+            pool.len(),
+            out.as_mut_ptr(),
+            out.len(),
+            &mut result,
+        );
+    }
+    result
+}
+
+pub fn is_utf8(text: &[u8]) -> bool {
+    // SAFETY: `text` is a live slice, which is only read. The answer is a compiled `bool`, so it is 0 or 1.
+    unsafe { tandrekily_is_utf8(text.as_ptr(), text.len()) }
+}
+
+pub fn unix_seconds(time: u32) -> i64 {
+    // SAFETY: a number goes in and a number comes out; every `u32` is answered.
+    unsafe { tandrekily_unix_seconds(time) }
+}

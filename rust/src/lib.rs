@@ -1,0 +1,255 @@
+//! A decoder and a writer of Diameter messages (RFC 6733), over a library in which every function is proved to meet its contract.
+//!
+//! A message is decoded into a flat table of [`Record`]s in memory that the caller lends; an iterator gives each AVP with its
+//! typed [`Value`]. The writer turns such a table back into a message. Nothing is allocated, nothing is asked of the bytes, and a
+//! [`Refusal`] has changed no byte that was lent. The crate needs neither `std` nor `alloc`.
+//!
+//! # Decoding
+//!
+//! ```
+//! use tandrekily::{decode, error_flags, Limits, Reading, Record, Value};
+//!
+//! // A header, and a Result-Code with a fifth byte of data.
+//! let message = [
+//!     1, 0, 0, 36, 0, 0, 0, 0, 0, 0, 0, 0, 0, 0, 0, 0, 0, 0, 0, 0, //
+//!     0, 0, 1, 12, 0, 0, 0, 13, 0, 0, 7, 209, 0, 0, 0, 0,
+//! ];
+//! let mut store = [0; 64 * Record::SIZE];
+//! let decoded = decode(&message, Reading::Sawp, Limits::default(), &mut store)?;
+//!
+//! assert_eq!(decoded.length, 36);
+//! assert_eq!(decoded.errors, error_flags::DATA_LENGTH);
+//! for avp in decoded.records() {
+//!     assert_eq!(avp.record.code, 268);
+//!     assert_eq!(avp.value(), Value::Unsigned32(2001));
+//! }
+//! # Ok::<(), tandrekily::Refusal>(())
+//! ```
+//!
+//! # Writing
+//!
+//! What was decoded is written back byte for byte: `write(decoded.header.into(), decoded.table(), &message, &mut out)`. A message
+//! of one's own takes a record for each AVP and the bytes that their places point into:
+//!
+//! ```
+//! use tandrekily::{kinds, write, Fields, Header, Record};
+//!
+//! // A User-Name, whose three bytes of data need one of padding.
+//! let user_name = Record {
+//!     code: 1,
+//!     flags: Record::MANDATORY_FLAG,
+//!     length: 8 + 3,
+//!     depth: 1,
+//!     kind: kinds::UTF8_STRING,
+//!     padding: 1,
+//!     ..Record::default()
+//! };
+//! let fields = Fields { flags: Header::REQUEST_FLAG, code: 271, ..Fields::default() };
+//! let mut out = [0; 64];
+//! let total = write(fields, &user_name.to_bytes(), b"bob", &mut out)?;
+//!
+//! assert_eq!(total, 32);
+//! assert_eq!(out[20..32], *b"\0\0\0\x01\x40\0\0\x0Bbob\0");
+//! # Ok::<(), tandrekily::Refusal>(())
+//! ```
+
+#![no_std]
+#![deny(missing_docs)]
+#![deny(unsafe_code)]
+#![deny(unsafe_op_in_unsafe_fn)]
+
+mod answer;
+#[allow(unsafe_code)]
+mod ffi;
+mod header;
+mod record;
+mod refusal;
+mod value;
+
+use answer::Answer;
+pub use header::{Fields, Header};
+pub use record::{Avp, Record, Records};
+pub use refusal::Refusal;
+pub use value::{kinds, Value};
+
+/// Flags of what is wrong in a message that is accepted all the same.
+pub mod error_flags {
+    /// Text that is not UTF-8, or a group that its members don't fill.
+    pub const DATA_VALUE: u8 = 0b0001;
+    /// Data of a length that the code doesn't take.
+    pub const DATA_LENGTH: u8 = 0b0010;
+    /// A reserved bit of the header or an AVP is set.
+    pub const NON_ZERO_RESERVED: u8 = 0b0100;
+    /// A byte of padding isn't 0.
+    pub const NON_ZERO_PADDING: u8 = 0b1000;
+}
+
+/// How the data of AVPs are read.
+#[derive(Clone, Copy, Debug, PartialEq, Eq, Hash)]
+pub enum Reading {
+    /// As the Rust crate sawp-diameter does.
+    Sawp,
+    /// As RFC 6733 says: Destination-Realm is 283 and not 235, Class is OctetString, Enumerated is signed, an Address starts with
+    /// its family, and AVPs of vendors are [`Unhandled`](Value::Unhandled).
+    Rfc,
+}
+
+impl Reading {
+    fn is_rfc(self) -> bool {
+        self == Reading::Rfc
+    }
+}
+
+/// How deep a message may be nested, and how many records may be written.
+#[derive(Clone, Copy, Debug, PartialEq, Eq, Hash)]
+pub struct Limits {
+    /// 1 to 64, where AVPs outside of groups have depth 1; any other limit is refused.
+    pub depth: usize,
+    /// Only this many records of the store are used, if it holds more. What is past them stays as it was lent.
+    pub records: usize,
+}
+
+impl Default for Limits {
+    /// The greatest depth, and as many records as the store holds.
+    fn default() -> Limits {
+        Limits {
+            depth: 64,
+            records: usize::MAX,
+        }
+    }
+}
+
+impl Limits {
+    fn cut(self, store: &mut [u8]) -> &mut [u8] {
+        let room = self.records.saturating_mul(Record::SIZE);
+        let used = room.min(store.len());
+        &mut store[..used]
+    }
+}
+
+/// A message that was accepted.
+#[derive(Clone, Debug)]
+pub struct Message<'a> {
+    /// The header.
+    pub header: Header,
+    /// The [`error_flags`] of the header and all AVPs, joined.
+    pub errors: u8,
+    /// How many AVP headers were tried, those in groups that turned out to be broken too.
+    pub tried: usize,
+    /// The length of the message: the rest of the input starts there.
+    pub length: usize,
+    records: Records<'a>,
+}
+
+impl<'a> Message<'a> {
+    /// The AVPs, each group before its members.
+    pub fn records(&self) -> Records<'a> {
+        self.records.clone()
+    }
+
+    /// The table of records, as [`write()`] takes it.
+    pub fn table(&self) -> &'a [u8] {
+        self.records.as_bytes()
+    }
+}
+
+/// An AVP that was decoded alone, and accepted.
+#[derive(Clone, Debug)]
+pub struct OneAvp<'a> {
+    /// The AVP's [`error_flags`], its members' joined in.
+    pub errors: u8,
+    /// How many AVP headers were tried, its own first.
+    pub tried: usize,
+    /// The AVP's size with its padding: the rest of the input starts there.
+    pub length: usize,
+    records: Records<'a>,
+}
+
+impl<'a> OneAvp<'a> {
+    /// The AVP, and if it is a group, its members after it.
+    pub fn records(&self) -> Records<'a> {
+        self.records.clone()
+    }
+
+    /// The table of records, as [`write()`] takes it.
+    pub fn table(&self) -> &'a [u8] {
+        self.records.as_bytes()
+    }
+}
+
+/// Decodes the message at the front of `input` into records in `store`, which holds one for every [`Record::SIZE`] bytes.
+///
+/// After an acceptance every byte of the store past the last record is 0. After a refusal the store is as it was lent.
+pub fn decode<'a>(
+    input: &'a [u8],
+    reading: Reading,
+    limits: Limits,
+    store: &'a mut [u8],
+) -> Result<Message<'a>, Refusal> {
+    let store = limits.cut(store);
+    let answer = Answer::of(ffi::message(reading.is_rfc(), limits.depth, input, store))?;
+    Ok(Message {
+        header: answer.header,
+        errors: answer.errors,
+        tried: answer.tried,
+        length: answer.length,
+        records: Records::new(&store[..answer.records * Record::SIZE], reading, input),
+    })
+}
+
+/// Decodes the one AVP at the front of `input`, at depth 1, into records in `store`. The store is left as [`decode`] leaves it.
+pub fn decode_avp<'a>(
+    input: &'a [u8],
+    reading: Reading,
+    limits: Limits,
+    store: &'a mut [u8],
+) -> Result<OneAvp<'a>, Refusal> {
+    let store = limits.cut(store);
+    let answer = Answer::of(ffi::avp(reading.is_rfc(), limits.depth, input, store))?;
+    Ok(OneAvp {
+        errors: answer.errors,
+        tried: answer.tried,
+        length: answer.length,
+        records: Records::new(&store[..answer.records * Record::SIZE], reading, input),
+    })
+}
+
+/// Reads the header at the front of `input` alone, and its [`error_flags`]. The whole message that it announces must be there.
+pub fn header(input: &[u8]) -> Result<(Header, u8), Refusal> {
+    let answer = Answer::of(ffi::header(input))?;
+    Ok((answer.header, answer.errors))
+}
+
+/// Writes the message of a table of records to the front of `out` and returns its length.
+///
+/// The places of the records point into `pool`, which for a table that was decoded is the input. All lengths written are
+/// computed, those of groups from their members. Bytes of `out` past the message stay, and after a refusal all of them do.
+///
+/// A table is a row of [`Record`]s with nothing left over, in which
+///
+/// - the depth is 1 to 64, that of the first record 1, and a record is deeper than the one before it only after a group, and
+///   then by 1;
+/// - the kind is one of [`kinds`], and the vendor is 0 without the 'V' bit;
+/// - a group has no padding; its place and length are not looked at;
+/// - any other AVP has a length of at least its header's size, its data are within the pool, and its padding count is what
+///   fills the data to a multiple of 4, with unused padding bytes 0.
+///
+/// Error flags and bits are not looked at.
+pub fn write(fields: Fields, table: &[u8], pool: &[u8], out: &mut [u8]) -> Result<usize, Refusal> {
+    let answer = Answer::of(ffi::write(fields, table, pool, out))?;
+    Ok(answer.length)
+}
+
+/// Is the text well-formed UTF-8 (RFC 3629)?
+pub fn is_utf8(text: &[u8]) -> bool {
+    ffi::is_utf8(text)
+}
+
+/// A [`Time`](Value::Time) in Unix seconds: 2,208,988,800 less, as 1970 is so much later than 1900.
+///
+/// ```
+/// assert_eq!(tandrekily::unix_seconds(2_208_988_800), 0);
+/// ```
+pub fn unix_seconds(time: u32) -> i64 {
+    ffi::unix_seconds(time)
+}

@@ -1,0 +1,208 @@
+//! The records that a message is decoded into, and the iterator over them.
+
+use core::iter::FusedIterator;
+
+use crate::{Reading, Value};
+
+/// One AVP as a row of the table: its header, where its data stand, and what was found of them.
+///
+/// A group stands before its members, which are one deeper. In the table a record is [`SIZE`](Record::SIZE) bytes, its numbers
+/// big-endian; [`to_bytes`](Record::to_bytes) makes a row for [`write`](crate::write).
+#[derive(Clone, Copy, Debug, Default, PartialEq, Eq, Hash)]
+pub struct Record {
+    /// The AVP code.
+    pub code: u32,
+    /// The AVP flags.
+    pub flags: u8,
+    /// The AVP length: header and data without the padding, 24 bits.
+    pub length: u32,
+    /// The Vendor-ID, and 0 without the 'V' bit.
+    pub vendor_id: u32,
+    /// Where the data stand in the input.
+    pub place: u32,
+    /// 1 for an AVP of the message itself, 2 for a member of such a group, and so on.
+    pub depth: u8,
+    /// One of [`kinds`](crate::kinds).
+    pub kind: u8,
+    /// The AVP's [`error_flags`](crate::error_flags); those of a group have its members' joined in.
+    pub errors: u8,
+    /// How many bytes of padding follow the data.
+    pub padding: u8,
+    /// The padding itself, the unused bytes 0.
+    pub pads: [u8; 3],
+    /// The value where it is a number or an IPv4 address, as its bits; else 0. [`Value`] says what they mean.
+    pub bits: u64,
+}
+
+/// A big-endian number of up to 8 bytes.
+fn number(bytes: &[u8]) -> u64 {
+    bytes.iter().fold(0, |n, &byte| n << 8 | u64::from(byte))
+}
+
+impl Record {
+    /// How many bytes a record has in the table.
+    pub const SIZE: usize = 32;
+
+    /// The 'V' bit.
+    pub const VENDOR_SPECIFIC_FLAG: u8 = 0b1000_0000;
+
+    /// The 'M' bit.
+    pub const MANDATORY_FLAG: u8 = 0b0100_0000;
+
+    /// The 'P' bit.
+    pub const PROTECTED_FLAG: u8 = 0b0010_0000;
+
+    /// The bits that are reserved.
+    pub const RESERVED_MASK: u8 = 0b0001_1111;
+
+    /// The record of a row of the table. Any 32 bytes are a record; byte 23 is not looked at.
+    pub fn from_bytes(row: &[u8; Self::SIZE]) -> Record {
+        Record {
+            code: number(&row[0..4]) as u32,
+            flags: row[4],
+            length: number(&row[5..8]) as u32,
+            vendor_id: number(&row[8..12]) as u32,
+            place: number(&row[12..16]) as u32,
+            depth: row[16],
+            kind: row[17],
+            errors: row[18],
+            padding: row[19],
+            pads: [row[20], row[21], row[22]],
+            bits: number(&row[24..32]),
+        }
+    }
+
+    /// The record as a row of the table. Of the length the low 24 bits are taken.
+    pub fn to_bytes(&self) -> [u8; Self::SIZE] {
+        let mut row = [0; Self::SIZE];
+        row[0..4].copy_from_slice(&self.code.to_be_bytes());
+        row[4..8].copy_from_slice(&self.length.to_be_bytes());
+        row[4] = self.flags;
+        row[8..12].copy_from_slice(&self.vendor_id.to_be_bytes());
+        row[12..16].copy_from_slice(&self.place.to_be_bytes());
+        row[16] = self.depth;
+        row[17] = self.kind;
+        row[18] = self.errors;
+        row[19] = self.padding;
+        row[20..23].copy_from_slice(&self.pads);
+        row[24..32].copy_from_slice(&self.bits.to_be_bytes());
+        row
+    }
+
+    /// Does the AVP have a Vendor-ID?
+    pub fn is_vendor_specific(&self) -> bool {
+        self.flags & Self::VENDOR_SPECIFIC_FLAG != 0
+    }
+
+    /// Must the receiver understand the AVP?
+    pub fn is_mandatory(&self) -> bool {
+        self.flags & Self::MANDATORY_FLAG != 0
+    }
+
+    /// The 'P' bit, reserved for end-to-end security.
+    pub fn is_protected(&self) -> bool {
+        self.flags & Self::PROTECTED_FLAG != 0
+    }
+
+    /// The bits that are reserved, as they were sent.
+    pub fn get_reserved(&self) -> u8 {
+        self.flags & Self::RESERVED_MASK
+    }
+
+    /// How long the AVP's header is: 8 bytes, and 12 with the Vendor-ID.
+    pub fn header_size(&self) -> usize {
+        if self.is_vendor_specific() {
+            12
+        } else {
+            8
+        }
+    }
+
+    /// The AVP's data in the input that the record came from. None where the record doesn't fit this input.
+    pub fn data<'a>(&self, input: &'a [u8]) -> Option<&'a [u8]> {
+        let size = (self.length as usize).checked_sub(self.header_size())?;
+        input.get(self.place as usize..)?.get(..size)
+    }
+}
+
+/// A record with the input at hand, so that its data and its value can be had.
+#[derive(Clone, Copy, Debug)]
+pub struct Avp<'a> {
+    /// The row of the table.
+    pub record: Record,
+    reading: Reading,
+    input: &'a [u8],
+}
+
+impl<'a> Avp<'a> {
+    /// The data, without the padding. None only if the table isn't of this input.
+    pub fn data(&self) -> Option<&'a [u8]> {
+        self.record.data(self.input)
+    }
+
+    /// The value. Text is checked again here, so ask once.
+    pub fn value(&self) -> Value<'a> {
+        Value::new(&self.record, self.reading, self.input)
+    }
+}
+
+/// An iterator over the AVPs of a table, each group before its members.
+#[derive(Clone, Debug)]
+pub struct Records<'a> {
+    table: &'a [u8],
+    reading: Reading,
+    input: &'a [u8],
+}
+
+impl<'a> Records<'a> {
+    /// The records of any table, such as one that was kept: the reading and the input should be those that it was decoded from.
+    /// Nothing is asked of them all the same. Bytes after the last whole record are left out.
+    pub fn new(table: &'a [u8], reading: Reading, input: &'a [u8]) -> Records<'a> {
+        let whole = table.len() - table.len() % Record::SIZE;
+        Records {
+            table: &table[..whole],
+            reading,
+            input,
+        }
+    }
+
+    /// The rows that are left to iterate over, as [`write`](crate::write) takes them.
+    pub fn as_bytes(&self) -> &'a [u8] {
+        self.table
+    }
+
+    fn avp(&self, row: &[u8; Record::SIZE]) -> Avp<'a> {
+        Avp {
+            record: Record::from_bytes(row),
+            reading: self.reading,
+            input: self.input,
+        }
+    }
+}
+
+impl<'a> Iterator for Records<'a> {
+    type Item = Avp<'a>;
+
+    fn next(&mut self) -> Option<Avp<'a>> {
+        let (row, rest) = self.table.split_first_chunk()?;
+        self.table = rest;
+        Some(self.avp(row))
+    }
+
+    fn size_hint(&self) -> (usize, Option<usize>) {
+        let left = self.table.len() / Record::SIZE;
+        (left, Some(left))
+    }
+}
+
+impl DoubleEndedIterator for Records<'_> {
+    fn next_back(&mut self) -> Option<Self::Item> {
+        let (rest, row) = self.table.split_last_chunk()?;
+        self.table = rest;
+        Some(self.avp(row))
+    }
+}
+
+impl ExactSizeIterator for Records<'_> {}
+
+impl FusedIterator for Records<'_> {}

@@ -1,0 +1,138 @@
+//! What an AVP's data are (RFC 6733, sections 4.2 and 4.3).
+
+use core::net::{IpAddr, Ipv4Addr, Ipv6Addr};
+use core::str::from_utf8;
+
+use crate::{Reading, Record};
+
+/// The numbers of the kinds, in a record's [`kind`](crate::Record::kind).
+pub mod kinds {
+    /// No code of the reading, or data that the code doesn't take.
+    pub const UNHANDLED: u8 = 0;
+    /// Bytes.
+    pub const OCTET_STRING: u8 = 1;
+    /// A signed number of 32 bits. No code yields it yet.
+    pub const INTEGER32: u8 = 2;
+    /// A signed number of 64 bits. No code yields it yet.
+    pub const INTEGER64: u8 = 3;
+    /// A number of 32 bits.
+    pub const UNSIGNED32: u8 = 4;
+    /// A number of 64 bits.
+    pub const UNSIGNED64: u8 = 5;
+    /// A floating point number of 32 bits. No code yields it yet.
+    pub const FLOAT32: u8 = 6;
+    /// A floating point number of 64 bits. No code yields it yet.
+    pub const FLOAT64: u8 = 7;
+    /// A run of AVPs.
+    pub const GROUPED: u8 = 8;
+    /// One of a list of numbers.
+    pub const ENUMERATED: u8 = 9;
+    /// Text.
+    pub const UTF8_STRING: u8 = 10;
+    /// The name of a host or a realm.
+    pub const DIAMETER_IDENTITY: u8 = 11;
+    /// Where a peer is.
+    pub const DIAMETER_URI: u8 = 12;
+    /// An IP address.
+    pub const ADDRESS: u8 = 13;
+    /// Seconds since 1900.
+    pub const TIME: u8 = 14;
+}
+
+/// The typed value of an AVP.
+#[derive(Clone, Copy, Debug, PartialEq)]
+#[non_exhaustive]
+pub enum Value<'a> {
+    /// A code that the reading doesn't know, or data that the code doesn't take; the record's error flags tell which.
+    /// [`Avp::data`](crate::Avp::data) has the bytes.
+    Unhandled,
+    /// Bytes.
+    OctetString(&'a [u8]),
+    /// A signed number of 32 bits. No code yields it yet.
+    Integer32(i32),
+    /// A signed number of 64 bits. No code yields it yet.
+    Integer64(i64),
+    /// A number of 32 bits.
+    Unsigned32(u32),
+    /// A number of 64 bits.
+    Unsigned64(u64),
+    /// A floating point number of 32 bits. No code yields it yet.
+    Float32(f32),
+    /// A floating point number of 64 bits. No code yields it yet.
+    Float64(f64),
+    /// A group. Its members are the records after it that are deeper.
+    Grouped,
+    /// One of a list of numbers. The sawp reading takes the 32 bits as unsigned and the RFC reading as signed; an `i64` has room
+    /// for both.
+    Enumerated(i64),
+    /// Text.
+    Utf8String(&'a str),
+    /// The name of a host or a realm. Only that it is text was checked.
+    DiameterIdentity(&'a str),
+    /// Where a peer is. Only that it is text was checked.
+    DiameterUri(&'a str),
+    /// An IP address.
+    Address(IpAddr),
+    /// Seconds since 1900; see [`unix_seconds`](crate::unix_seconds).
+    Time(u32),
+}
+
+impl<'a> Value<'a> {
+    /// The value of a record that was decoded in this reading of this input.
+    ///
+    /// Any record is answered: where it doesn't fit the input, its value is [`Unhandled`](Value::Unhandled).
+    pub fn new(record: &Record, reading: Reading, input: &'a [u8]) -> Value<'a> {
+        let text = || from_utf8(record.data(input)?).ok();
+        let value = match record.kind {
+            kinds::OCTET_STRING => record.data(input).map(Value::OctetString),
+            kinds::UTF8_STRING => text().map(Value::Utf8String),
+            kinds::DIAMETER_IDENTITY => text().map(Value::DiameterIdentity),
+            kinds::DIAMETER_URI => text().map(Value::DiameterUri),
+            kinds::ADDRESS => address(record, reading, input).map(Value::Address),
+            kind => Value::of_bits(kind, reading, record.bits),
+        };
+        value.unwrap_or(Value::Unhandled)
+    }
+
+    /// Numbers stand in the record itself; those of 32 bits in its low half.
+    fn of_bits(kind: u8, reading: Reading, bits: u64) -> Option<Value<'a>> {
+        let low = bits as u32;
+        Some(match kind {
+            kinds::INTEGER32 => Value::Integer32(low as i32),
+            kinds::INTEGER64 => Value::Integer64(bits as i64),
+            kinds::UNSIGNED32 => Value::Unsigned32(low),
+            kinds::UNSIGNED64 => Value::Unsigned64(bits),
+            kinds::FLOAT32 => Value::Float32(f32::from_bits(low)),
+            kinds::FLOAT64 => Value::Float64(f64::from_bits(bits)),
+            kinds::GROUPED => Value::Grouped,
+            kinds::ENUMERATED => Value::Enumerated(enumerated(reading, low)),
+            kinds::TIME => Value::Time(low),
+            _ => return None,
+        })
+    }
+}
+
+fn enumerated(reading: Reading, bits: u32) -> i64 {
+    match reading {
+        Reading::Sawp => bits.into(),
+        Reading::Rfc => (bits as i32).into(),
+    }
+}
+
+/// RFC 6733, section 4.3.1: a family of 2 bytes stands before the address. The sawp reading knows none.
+fn family_size(reading: Reading) -> usize {
+    match reading {
+        Reading::Sawp => 0,
+        Reading::Rfc => 2,
+    }
+}
+
+/// The record tells the two families apart by the length alone.
+fn address(record: &Record, reading: Reading, input: &[u8]) -> Option<IpAddr> {
+    let address = record.data(input)?.get(family_size(reading)..)?;
+    if address.len() == size_of::<Ipv4Addr>() {
+        return Some(Ipv4Addr::from(record.bits as u32).into());
+    }
+    let v6: [u8; 16] = address.try_into().ok()?;
+    Some(Ipv6Addr::from(v6).into())
+}

@@ -1,0 +1,84 @@
+//! Tables that did not come from the decoder: any bytes are answered, and nothing panics.
+
+mod random;
+
+use random::Random;
+use tandrekily::{kinds, Avp, Reading, Record, Records, Value};
+
+/// Rows of any bytes: half of them with lengths and places that are near the input, which else would be met too seldom.
+fn any_row(random: &mut Random) -> [u8; Record::SIZE] {
+    let mut row = [0; Record::SIZE];
+    for chunk in row.chunks_mut(8) {
+        chunk.copy_from_slice(&random.next().to_be_bytes());
+    }
+    row[17] %= 16;
+    if random.next() % 2 == 0 {
+        let (length, place) = (row[7] % 40, row[15] % 40);
+        row[5..8].copy_from_slice(&[0, 0, length]);
+        row[12..16].copy_from_slice(&[0, 0, 0, place]);
+    }
+    row
+}
+
+#[test]
+fn any_table_is_answered() {
+    let input = [b'a'; 32];
+    let mut random = Random(0x9E37_79B9_7F4A_7C15);
+    let table: Vec<u8> = (0..20_000).flat_map(|_| any_row(&mut random)).collect();
+    for reading in [Reading::Sawp, Reading::Rfc] {
+        let records = Records::new(&table, reading, &input);
+        let (inside, outside): (Vec<_>, Vec<_>) = records.partition(|avp| avp.data().is_some());
+        assert!(!inside.is_empty() && !outside.is_empty());
+        let text = |avp: &Avp| matches!(avp.value(), Value::Utf8String(_) | Value::OctetString(_));
+        assert!(inside.iter().any(text));
+        assert!(!outside.iter().any(text));
+    }
+}
+
+/// Byte 23 is always 0 and has no field.
+#[test]
+fn a_row_is_its_record() {
+    let mut random = Random(3);
+    for _ in 0..1_000 {
+        let mut row = any_row(&mut random);
+        row[23] = 0;
+        assert_eq!(Record::from_bytes(&row).to_bytes(), row);
+    }
+}
+
+/// A record at the ends of the numbers, where a sum would wrap.
+#[test]
+fn the_last_place_and_length() {
+    let record = Record {
+        length: 0xFF_FFFF,
+        place: u32::MAX,
+        kind: kinds::OCTET_STRING,
+        ..Record::default()
+    };
+    assert_eq!(record.data(&[0; 8]), None);
+    assert_eq!(
+        Value::new(&record, Reading::Sawp, &[0; 8]),
+        Value::Unhandled
+    );
+}
+
+#[test]
+fn an_iterator_from_both_ends() {
+    let row = |code| {
+        Record {
+            code,
+            ..Record::default()
+        }
+        .to_bytes()
+    };
+    let mut table = [row(1), row(2), row(3)].concat();
+    table.extend([0; 31]);
+    let mut records = Records::new(&table, Reading::Sawp, &[]);
+    assert_eq!(records.len(), 3);
+    assert_eq!(records.next_back().map(|avp| avp.record.code), Some(3));
+    assert_eq!(records.next().map(|avp| avp.record.code), Some(1));
+    assert_eq!(records.as_bytes(), row(2));
+    assert_eq!(records.next().map(|avp| avp.record.code), Some(2));
+    assert!(records.next().is_none() && records.next_back().is_none());
+    assert_eq!(records.len(), 0);
+}

@@ -1,0 +1,38 @@
+//! The two functions that take no message.
+
+mod random;
+
+use random::Random;
+use tandrekily::{is_utf8, unix_seconds};
+
+/// Up to four bytes. Most bytes of a text are continuations, and few random bytes are.
+fn any_text(random: &mut Random) -> Vec<u8> {
+    let size = random.next() as usize % 5;
+    let mut text = random.next().to_be_bytes()[..size].to_vec();
+    for byte in text.iter_mut().skip(1) {
+        *byte = *byte & 0x3F | 0x80;
+    }
+    text
+}
+
+#[test]
+fn utf8_as_the_standard_library_has_it() {
+    let mut random = Random(1);
+    let texts: Vec<Vec<u8>> = (0..20_000).map(|_| any_text(&mut random)).collect();
+    for text in &texts {
+        assert_eq!(
+            is_utf8(text),
+            std::str::from_utf8(text).is_ok(),
+            "{text:02x?}"
+        );
+    }
+    let well_formed = |size| texts.iter().any(|text| text.len() == size && is_utf8(text));
+    assert!((0..=4).all(well_formed), "some size has no text to accept");
+}
+
+#[test]
+fn seconds() {
+    assert_eq!(unix_seconds(0), -2_208_988_800);
+    assert_eq!(unix_seconds(2_208_988_800), 0);
+    assert_eq!(unix_seconds(u32::MAX), 2_085_978_495);
+}

@@ -1,0 +1,138 @@
+//! The refusals of document 01: each number with its name, and each name from a call that is refused for it.
+
+use tandrekily::{decode, kinds, write, Fields, Limits, Reading, Record, Refusal};
+
+/// Number, name and amount, as in the table of "Numbers returned". An amount of 7 stands for any.
+const TABLE: [(u8, &str, usize, Refusal); 11] = [
+    (1, "Incomplete", 7, Refusal::Incomplete(7)),
+    (2, "NotVersion", 0, Refusal::NotVersion),
+    (3, "BadLength", 0, Refusal::BadLength),
+    (4, "NotTiled", 0, Refusal::NotTiled),
+    (5, "TooDeep", 0, Refusal::TooDeep),
+    (6, "NoRecords", 7, Refusal::NoRecords(7)),
+    (7, "BadDepth", 0, Refusal::BadDepth),
+    (8, "BadHeader", 0, Refusal::BadHeader),
+    (9, "BadTable", 7, Refusal::BadTable(7)),
+    (10, "TooLong", 0, Refusal::TooLong),
+    (11, "NoRoom", 7, Refusal::NoRoom(7)),
+];
+
+const LENT: u8 = 0xA5;
+
+/// An AVP with 4 bytes of data, at the front of the pool.
+const WORD: Record = Record {
+    code: 268,
+    flags: 0,
+    length: 12,
+    vendor_id: 0,
+    place: 0,
+    depth: 1,
+    kind: kinds::UNSIGNED32,
+    errors: 0,
+    padding: 0,
+    pads: [0; 3],
+    bits: 0,
+};
+
+#[test]
+fn numbers_names_and_amounts() {
+    for (number, name, amount, refusal) in TABLE {
+        assert_eq!(refusal.number(), number, "{name}");
+        assert_eq!(refusal.amount(), amount, "{name}");
+        let shown = format!("{refusal:?}");
+        assert_eq!(shown.split('(').next(), Some(name));
+    }
+}
+
+#[test]
+fn words_name_the_amount() {
+    for (_, name, amount, refusal) in TABLE {
+        assert_eq!(
+            refusal.to_string().contains('7'),
+            amount == 7,
+            "{name}: {refusal}"
+        );
+    }
+}
+
+fn depth(depth: usize) -> Option<Refusal> {
+    let limits = Limits {
+        depth,
+        ..Limits::default()
+    };
+    decode(
+        &[1, 0, 0, 20, 0, 0, 0, 0, 0, 0, 0, 0, 0, 0, 0, 0, 0, 0, 0, 0],
+        Reading::Rfc,
+        limits,
+        &mut [],
+    )
+    .err()
+}
+
+#[test]
+fn the_depth_limit() {
+    assert_eq!(depth(0), Some(Refusal::BadDepth));
+    assert_eq!(depth(1), None);
+    assert_eq!(depth(64), None);
+    assert_eq!(depth(65), Some(Refusal::BadDepth));
+    assert_eq!(depth(usize::MAX), Some(Refusal::BadDepth));
+}
+
+/// Writes and, where it is refused, sees that no byte of the output has changed.
+fn try_write(code: u32, table: &[u8], pool: &[u8], room: usize) -> Result<usize, Refusal> {
+    let fields = Fields {
+        code,
+        ..Fields::default()
+    };
+    let mut out = vec![LENT; room];
+    let answer = write(fields, table, pool, &mut out);
+    assert!(answer.is_ok() || out == vec![LENT; room]);
+    answer
+}
+
+#[test]
+fn the_command_code() {
+    assert_eq!(try_write(0x100_0000, &[], &[], 20), Err(Refusal::BadHeader));
+    assert_eq!(try_write(0xFF_FFFF, &[], &[], 20), Ok(20));
+}
+
+#[test]
+fn the_table() {
+    let pool = [0; 4];
+    let good = WORD.to_bytes();
+    let bad = Record { place: 1, ..WORD }.to_bytes();
+    assert_eq!(try_write(0, &[good, good].concat(), &pool, 44), Ok(44));
+    assert_eq!(
+        try_write(0, &[good, bad].concat(), &pool, 44),
+        Err(Refusal::BadTable(1))
+    );
+    assert_eq!(
+        try_write(0, &[&good[..], &[0]].concat(), &pool, 44),
+        Err(Refusal::BadTable(1))
+    );
+}
+
+#[test]
+fn the_room() {
+    assert_eq!(
+        try_write(0, &WORD.to_bytes(), &[0; 4], 31),
+        Err(Refusal::NoRoom(32))
+    );
+    assert_eq!(try_write(0, &WORD.to_bytes(), &[0; 4], 32), Ok(32));
+}
+
+/// Two AVPs that are each within 24 bits, and together are not.
+#[test]
+fn the_total() {
+    let half = Record {
+        length: 0x80_0000,
+        ..WORD
+    };
+    let pool = vec![0; 0x80_0000 - 8];
+    let table = [half.to_bytes(), half.to_bytes()].concat();
+    assert_eq!(try_write(0, &table, &pool, 0), Err(Refusal::TooLong));
+    assert_eq!(
+        try_write(0, &half.to_bytes(), &pool, 0),
+        Err(Refusal::NoRoom(0x80_0014))
+    );
+}

@@ -1,0 +1,72 @@
+//! What was decoded is written back byte for byte.
+
+mod frames;
+
+use frames::{frames, Frame, LENT};
+use tandrekily::{decode, decode_avp, write, Fields, Header, Limits, Reading, Record};
+
+/// P8 of document 01: a Result-Code with a fifth data byte.
+const FIFTH_BYTE: [u8; 36] = [
+    1, 0, 0, 36, 0, 0, 0, 0, 0, 0, 0, 0, 0, 0, 0, 0, 0, 0, 0, 0, // header
+    0, 0, 1, 12, 0, 0, 0, 13, 0, 0, 7, 209, 0, 0, 0, 0,
+];
+
+/// Bytes of the output past the message, which must stay.
+const PAST: usize = 7;
+
+/// Writes to an output that is longer than the message, and returns the message.
+fn written(fields: Fields, table: &[u8], pool: &[u8], length: usize) -> Vec<u8> {
+    let mut out = vec![LENT; length + PAST];
+    assert_eq!(write(fields, table, pool, &mut out), Ok(length));
+    assert_eq!(out.split_off(length), [LENT; PAST]);
+    out
+}
+
+/// Is the frame's message accepted, and if so, does it come back?
+fn message_comes_back(frame: &Frame) -> bool {
+    let mut store = frame.store();
+    let Ok(m) = decode(&frame.input, frame.reading, frame.limits, &mut store) else {
+        return false;
+    };
+    let back = written(m.header.into(), m.table(), &frame.input, m.length);
+    assert_eq!(back, frame.input[..m.length]);
+    true
+}
+
+/// The same of an AVP alone, which comes back behind a header.
+fn avp_comes_back(frame: &Frame) -> bool {
+    let mut store = frame.store();
+    let Ok(one) = decode_avp(&frame.input, frame.reading, frame.limits, &mut store) else {
+        return false;
+    };
+    let length = Header::SIZE + one.length;
+    let back = written(Fields::default(), one.table(), &frame.input, length);
+    assert_eq!(back[Header::SIZE..], frame.input[..one.length]);
+    true
+}
+
+#[test]
+fn the_36_bytes_of_a_fifth_data_byte_come_back() {
+    for reading in [Reading::Sawp, Reading::Rfc] {
+        let mut store = [LENT; Record::SIZE];
+        let m = decode(&FIFTH_BYTE, reading, Limits::default(), &mut store).unwrap();
+        let back = written(m.header.into(), m.table(), &FIFTH_BYTE, 36);
+        assert_eq!(back, FIFTH_BYTE);
+    }
+}
+
+#[test]
+fn every_accepted_message_of_the_sample_comes_back() {
+    let sample = frames();
+    let messages = sample.iter().filter(|frame| frame.function == 0);
+    let accepted = messages.filter(|frame| message_comes_back(frame)).count();
+    assert!(accepted > 2000, "only {accepted} messages are accepted");
+}
+
+#[test]
+fn every_accepted_avp_of_the_sample_comes_back() {
+    let sample = frames();
+    let avps = sample.iter().filter(|frame| frame.function == 2);
+    let accepted = avps.filter(|frame| avp_comes_back(frame)).count();
+    assert!(accepted > 900, "only {accepted} AVPs are accepted");
+}
