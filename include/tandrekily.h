@@ -1,0 +1,160 @@
+// Tandrekily for C and C++: decodes and writes Diameter messages (RFC 6733). Link libtandrekily.a, for x86-64 Linux.
+//
+// What a caller passes:
+//   - With each pointer that has a length, so many bytes that may be read; those of `store` and `out` may be written too.
+//   - `result` points to TANDREKILY_RESULT numbers.
+//   - No null pointer. Where a length is 0, any other pointer does, and nothing is read or written through it.
+//   - `store`, `out` and `result` share no byte with anything else that is passed.
+// Nothing else is asked: each function answers for any bytes and any numbers. Before a call the bytes of `store`, `out`
+// and `result` may be anything.
+//
+// What a caller gets:
+//   - `result` is written whole by every call, with zeros where nothing is returned.
+//   - A refusal changes no byte of `store` or `out`.
+//   - Nothing is allocated or kept between calls, so calls may run in several threads at once.
+//   - A call takes less than 64 KiB of stack; bench/stack measures it at the deepest nesting.
+#ifndef TANDREKILY_H
+#define TANDREKILY_H
+
+#include <stdbool.h>
+#include <stddef.h>
+#include <stdint.h>
+
+#ifdef __cplusplus
+extern "C" {
+#endif
+
+// ---- results
+
+// The places in a result. All after the amount are 0 in a refusal.
+enum tandrekily_place {
+    TANDREKILY_NUMBER = 0,      // the answer's number, listed below
+    TANDREKILY_AMOUNT = 1,      // what a refusal returns besides; 0 if accepted
+    TANDREKILY_FLAGS = 2,       // error flags of all that was read, joined
+    TANDREKILY_RECORDS = 3,     // records in the store
+    TANDREKILY_TRIED = 4,       // AVP headers tried, those in groups that do not tile too
+    TANDREKILY_LENGTH = 5,      // bytes consumed, or written
+    TANDREKILY_VERSION = 6,     // from here on the fields of a message's header
+    TANDREKILY_MESSAGE_LENGTH = 7,
+    TANDREKILY_MESSAGE_FLAGS = 8,
+    TANDREKILY_COMMAND_CODE = 9,
+    TANDREKILY_APPLICATION_ID = 10,
+    TANDREKILY_HOP_BY_HOP = 11,
+    TANDREKILY_END_TO_END = 12,
+    TANDREKILY_RESULT = 13      // how many numbers a result has
+};
+
+enum tandrekily_answer {
+    TANDREKILY_ACCEPTED = 0,
+    TANDREKILY_INCOMPLETE = 1,  // bytes are absent; the amount says how many
+    TANDREKILY_NOT_VERSION = 2, // the first byte is not 1
+    TANDREKILY_BAD_LENGTH = 3,  // the length field is shorter than the header
+    TANDREKILY_NOT_TILED = 4,   // complete AVPs do not cover the message to its last byte
+    TANDREKILY_TOO_DEEP = 5,    // AVPs are nested deeper than the limit
+    TANDREKILY_NO_RECORDS = 6,  // the store is too short; the amount is the records needed
+    TANDREKILY_BAD_DEPTH = 7,   // the limit is not 1..64
+    TANDREKILY_BAD_HEADER = 8,  // the command code is over 16,777,215
+    TANDREKILY_BAD_TABLE = 9,   // the amount is the index of the first bad record, or the record count if bytes are left over
+    TANDREKILY_TOO_LONG = 10,   // the message would be over 16,777,215 bytes
+    TANDREKILY_NO_ROOM = 11     // the output is too short; the amount is the bytes needed
+};
+
+// Bits, joined by or.
+enum tandrekily_error_flag {
+    TANDREKILY_DATA_VALUE = 1,        // ill-formed text, or a group whose members do not tile
+    TANDREKILY_DATA_LENGTH = 2,       // more or fewer data than the kind takes
+    TANDREKILY_NON_ZERO_RESERVED = 4, // reserved bits are set
+    TANDREKILY_NON_ZERO_PADDING = 8   // padding is not zero
+};
+
+// ---- records
+
+// A record has 32 bytes, its numbers are big-endian, and a group stands before its members. These are the places in it.
+enum tandrekily_record {
+    TANDREKILY_RECORD_CODE = 0,     // 4 bytes
+    TANDREKILY_RECORD_FLAGS = 4,    // 1
+    TANDREKILY_RECORD_LENGTH = 5,   // 3: the AVP's header and data, without padding
+    TANDREKILY_RECORD_VENDOR = 8,   // 4: 0 without the vendor bit
+    TANDREKILY_RECORD_PLACE = 12,   // 4: where the data start in the input
+    TANDREKILY_RECORD_DEPTH = 16,   // 1: 1 at the top level
+    TANDREKILY_RECORD_KIND = 17,    // 1
+    TANDREKILY_RECORD_ERRORS = 18,  // 1: this AVP's error flags
+    TANDREKILY_RECORD_PADDING = 19, // 1: how many bytes of padding, 0..3
+    TANDREKILY_RECORD_PADS = 20,    // 3: these bytes, then zeros
+    TANDREKILY_RECORD_ZERO = 23,    // 1
+    TANDREKILY_RECORD_VALUE = 24,   // 8: a number, an Enumerated as its 32 bits, an IPv4 address; else 0
+    TANDREKILY_RECORD_SIZE = 32
+};
+
+// The data of a record are its length less one of these, by the vendor bit of its flags.
+enum tandrekily_avp_head {
+    TANDREKILY_AVP_VENDOR_BIT = 0x80,
+    TANDREKILY_AVP_HEAD = 8,
+    TANDREKILY_AVP_HEAD_WITH_VENDOR = 12
+};
+
+enum tandrekily_kind {
+    TANDREKILY_UNHANDLED = 0,   // an unknown code, or data that are not of the code's kind
+    TANDREKILY_OCTET_STRING = 1,
+    TANDREKILY_INTEGER_32 = 2,  // no code has kind 2, 3, 6 or 7
+    TANDREKILY_INTEGER_64 = 3,
+    TANDREKILY_UNSIGNED_32 = 4,
+    TANDREKILY_UNSIGNED_64 = 5,
+    TANDREKILY_FLOAT_32 = 6,
+    TANDREKILY_FLOAT_64 = 7,
+    TANDREKILY_GROUPED = 8,
+    TANDREKILY_ENUMERATED = 9,
+    TANDREKILY_UTF8_STRING = 10,
+    TANDREKILY_DIAMETER_IDENTITY = 11,
+    TANDREKILY_DIAMETER_URI = 12,
+    TANDREKILY_ADDRESS = 13,
+    TANDREKILY_TIME = 14
+};
+
+// ---- decoding
+
+// Decodes the message at the front of `input` into records in `store`: as RFC 6733 says where `rfc`, else as the Rust crate
+// sawp-diameter does. The store holds `store_length` / 32 records, and `limit` is the deepest level that may be read.
+//   accepted: the header, the message's flags, records, tried, the message's length; the rest of the store is zero
+//   refused, in this order: BAD_DEPTH, INCOMPLETE, NOT_VERSION, INCOMPLETE of 4 bytes, BAD_LENGTH under 4, INCOMPLETE of
+//   the length, BAD_LENGTH under 20, NOT_TILED, TOO_DEEP, NO_RECORDS
+// With a store of length 0 it says how many records are needed.
+void tandrekily_message(bool rfc, size_t limit, const uint8_t *input, size_t input_length, uint8_t *store, size_t store_length,
+                        uint64_t result[TANDREKILY_RESULT]);
+
+// Reads the header at the front of `input` alone. The bytes of the whole message must be there.
+//   accepted: the header, its own flags, 20 as the length
+//   refused: INCOMPLETE, NOT_VERSION or BAD_LENGTH, in the order of a message
+void tandrekily_header(const uint8_t *input, size_t input_length, uint64_t result[TANDREKILY_RESULT]);
+
+// Decodes the one AVP at the front of `input`, at depth 1, into records in `store`.
+//   accepted: no header; its flags, records, tried, and its padded size as the length; the rest of the store is zero
+//   refused, in this order: BAD_DEPTH, INCOMPLETE or BAD_LENGTH, TOO_DEEP, NO_RECORDS
+void tandrekily_avp(bool rfc, size_t limit, const uint8_t *input, size_t input_length, uint8_t *store, size_t store_length,
+                    uint64_t result[TANDREKILY_RESULT]);
+
+// ---- writing
+
+// Writes the message of the records in `table` to the front of `out`. Their places point into `pool`; a decoder's records
+// with its input as the pool give the message again. All lengths are computed, a group's from its members; the record's
+// error flags, byte 23 and value are not read.
+//   accepted: the message's length; the rest of `out` stays as it was
+//   refused, in this order: BAD_HEADER, BAD_TABLE, TOO_LONG, NO_ROOM
+// With an output of length 0 it says how many bytes are needed.
+void tandrekily_write(uint8_t flags, uint32_t command_code, uint32_t application_id, uint32_t hop_by_hop, uint32_t end_to_end,
+                      const uint8_t *table, size_t table_length, const uint8_t *pool, size_t pool_length, uint8_t *out,
+                      size_t out_length, uint64_t result[TANDREKILY_RESULT]);
+
+// ---- values
+
+// Is the text well-formed UTF-8 (RFC 3629)? The empty text is.
+bool tandrekily_is_utf8(const uint8_t *text, size_t text_length);
+
+// The value of a Time, seconds since 1900, in Unix seconds: `time` - 2,208,988,800.
+int64_t tandrekily_unix_seconds(uint32_t time);
+
+#ifdef __cplusplus
+}
+#endif
+
+#endif
