@@ -1,0 +1,107 @@
+// Lays out the messages that are measured; the first three are those of oracle/beside/src/wire.rs.
+#include "messages.h"
+#include <string.h>
+
+enum { HEADER = 20, HEAD = 8, NUMBER = 12, MANDATORY = 0x40 };
+enum { FAILED_AVP = 279, PROXY_INFO = 284, VENDOR_SPECIFIC_APPLICATION_ID = 260 };
+
+static uint8_t *put(uint8_t *at, uint32_t value, int bytes) {
+    while (bytes-- > 0) *at++ = (uint8_t)(value >> 8 * bytes);
+    return at;
+}
+
+static uint8_t *head(uint8_t *at, uint32_t code, uint8_t flags, size_t length) {
+    at = put(at, code, 4);
+    *at++ = flags;
+    return put(at, (uint32_t)length, 3);
+}
+
+static uint8_t *text(uint8_t *at, uint32_t code, const char *data, size_t length) {
+    at = head(at, code, MANDATORY, HEAD + length);
+    memcpy(at, data, length);
+    memset(at + length, 0, 3);
+    return at + (length + 3) / 4 * 4;
+}
+
+#define TEXT(at, code, data) text(at, code, data, sizeof data - 1)
+
+static uint8_t *number(uint8_t *at, uint32_t code, uint32_t value) {
+    return put(head(at, code, MANDATORY, NUMBER), value, 4);
+}
+
+// The header's length is set when the end is known.
+static uint8_t *start(uint8_t *out, uint8_t flags, uint32_t code, uint32_t application, uint32_t hop, uint32_t end) {
+    uint8_t *at = put(out, 1u << 24, 4);
+    *at++ = flags;
+    at = put(at, code, 3);
+    return put(put(put(at, application, 4), hop, 4), end, 4);
+}
+
+static size_t finish(uint8_t *out, const uint8_t *end) {
+    put(out + 1, (uint32_t)(end - out), 3);
+    return (size_t)(end - out);
+}
+
+// Some header, where it does not matter.
+static uint8_t *start_any(uint8_t *out) {
+    return start(out, 0x80, 271, 3, 0x01020304, 0x05060708);
+}
+
+// ---- the typical message
+
+static uint8_t *proxy_info(uint8_t *group) {
+    uint8_t *at = TEXT(group + HEAD, 280, "proxy2.example.net");
+    at = TEXT(at, 33, "\x00\x01\x02\x03\xA0\xA1\xA2\xA3");
+    head(group, PROXY_INFO, MANDATORY, (size_t)(at - group));
+    return at;
+}
+
+static uint8_t *application(uint8_t *group) {
+    uint8_t *at = number(group + HEAD, 266, 10415);
+    at = number(at, 258, 4);
+    at = number(at, 259, 3);
+    head(group, VENDOR_SPECIFIC_APPLICATION_ID, MANDATORY, (size_t)(at - group));
+    return at;
+}
+
+size_t message_typical(uint8_t *out) {
+    uint8_t *at = start(out, 0xC0, 271, 3, 0x1B2C3D4E, 0x5A6B7C8D);
+    at = TEXT(at, 263, "gateway-01.example.net;1876543210;523;accounting");
+    at = TEXT(at, 264, "gateway-01.example.net");
+    at = TEXT(at, 296, "example.net");
+    at = TEXT(at, 283, "example.net");
+    at = number(at, 480, 2);
+    at = number(at, 485, 1);
+    at = number(at, 259, 3);
+    at = TEXT(at, 1, "alice@example.net");
+    at = number(at, 85, 300);
+    at = number(at, 278, 1400000000);
+    at = number(at, 55, 3900000000u);
+    at = TEXT(at, 282, "relay4.core.example.net");
+    at = proxy_info(at);
+    at = application(at);
+    at = number(at, 483, 1);
+    return finish(out, at);
+}
+
+// ---- the others
+
+size_t message_small(uint8_t *out, size_t most) {
+    uint8_t *at = start_any(out);
+    for (size_t left = most - HEADER; left >= HEAD; left -= HEAD) at = head(at, 44, MANDATORY, HEAD);
+    return finish(out, at);
+}
+
+size_t message_nested(uint8_t *out, size_t depth) {
+    uint8_t *at = start_any(out);
+    for (size_t inside = depth - 1; inside > 0; inside--)
+        at = head(at, FAILED_AVP, MANDATORY, HEAD * inside + NUMBER);
+    return finish(out, number(at, 268, 2001));
+}
+
+size_t message_extremal(uint8_t *out, size_t most) {
+    uint8_t *at = start(out, 0, 0, 0, 0, 0);
+    for (size_t left = most - HEADER; left >= NUMBER; left -= NUMBER)
+        at = put(head(at, FAILED_AVP, 0, HEAD + 1), 0, 4);
+    return finish(out, at);
+}
