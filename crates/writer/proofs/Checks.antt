@@ -14,6 +14,7 @@ use Rattle.rfc6733.specs.Avp.{vendorBit, padding}
 use Rattle.rfc6733.specs.Value.{time}
 use Rattle.rfc6733.specs.Record.{Record, recordSize}
 use Rattle.rfc6733.specs.Writer.{recordAt, tableOf, isGroup, headOf, statedData, keeps, keepers, allowedAfter}
+use Rattle.table.proofs.Rules.{keeps-good}
 use Rattle.table.proofs.Tables.{table-none, table-some}
 use Rattle.writer.specs.Rules.{keepsLeaf}
 
@@ -62,10 +63,6 @@ module _ (allowed n : ℕ) (r : Record) where
     too-deep h = rw (le-leb 1 (r .depth) some, lt-leb (r .depth) 64 h)
 
     module _ (most : r .depth ≤ 64) where
-      pub not-allowed : allowed < r .depth → false ≡ keeps allowed n r
-      unfolding keeps
-      not-allowed h = rw (le-leb 1 (r .depth) some, le-leb (r .depth) 64 most, lt-leb (r .depth) allowed h)
-
       module _ (allows : r .depth ≤ allowed) where
         pub no-kind : time < r .kind → false ≡ keeps allowed n r
         unfolding keeps
@@ -93,6 +90,19 @@ module _ (allowed n : ℕ) (r : Record) where
 
             pub then-leaf : isGroup r ≡ false → b ≡ keepsLeaf n r → b ≡ keeps allowed n r
             then-leaf h e = e ∙ sym (only (keepsLeaf n r)) ∙ (rw (not-false vendor keeps-vendor, h) at rest-is)
+
+  -- ---- the depth that is allowed, asked apart
+
+  pub stepped : allowed < r .depth → keeps allowed n r ≡ false
+  stepped h = by (keeps allowed n r) refl
+    where
+      by : (b : Bool) → keeps allowed n r ≡ b → b ≡ false
+      by true e = absurd (let allows = keeps-good allowed n r e .allows in omega arith)
+      by false e = refl
+
+  pub not-stepped : r .depth ≤ allowed → keeps (r .depth) n r ≡ keeps allowed n r
+  unfolding keeps
+  not-stepped h = let own : r .depth ≤ r .depth = omega arith in rw (le-leb (r .depth) allowed h, le-leb (r .depth) (r .depth) own)
 
 -- ---- a table
 

@@ -157,16 +157,14 @@ fn keeps_leaf(r: Record, available: usize) -> bool
     unused_padding(r) == 0
 }
 
-fn keeps(r: Record, allowed: u8, available: usize) -> bool
-    ensures { λ b. ⌜ b ≡ keeps allowed available (recordAs r) ⌝ }
+// The rules of a record by itself, at whatever depth it has.
+fn keeps(r: Record, available: usize) -> bool
+    ensures { λ b. ⌜ b ≡ keeps (r .depth) available (recordAs r) ⌝ }
 {
     if r.depth < 1 {
         return false;
     }
     if MOST_DEPTH < r.depth {
-        return false;
-    }
-    if allowed < r.depth {
         return false;
     }
     if TIME < r.kind {
@@ -200,7 +198,10 @@ fn keepers(table: &[u8], available: usize) -> usize
     let mut allowed: u8 = 1;
     while kept < table.len() / Record::SIZE {
         let r = Record::get(&table[kept * Record::SIZE..]);
-        if !keeps(r, allowed, available) {
+        if allowed < r.depth {
+            return kept;
+        }
+        if !keeps(r, available) {
             return kept;
         }
         allowed = allowed_after(r);
