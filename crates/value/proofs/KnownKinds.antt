@@ -1,7 +1,8 @@
--- Which kinds there are. A `match` says of a number that it is one of several, or none of them; what is left then is Unhandled.
+-- Which kinds there are. A `match` says of a number that it is one of several, or none of them. Of a list of kinds the last is left
+-- then, and of all of them Unhandled.
 -- Assumes nothing.
 use Prim.Native.Nat.{ℕ, suc, _≤_}
-use mathlib.Core.Path.{_≡_, refl}
+use mathlib.Core.Path.{_≡_, refl, sym}
 use mathlib.Core.Bool.{Bool, true, false, cond, _||_}
 use mathlib.Core.List.{List, [], _∷_, _++_}
 use mathlib.Core.Logic.{inl, inr}
@@ -15,11 +16,12 @@ use Rattle.value.specs.Values.{kinds32, kinds64, known}
 
 -- ---- one of several numbers
 
-abbrev Each : (ℕ → Type 0) → List ℕ → Type 0
+-- P holds of each number of a list
+abbrev pub Each : (ℕ → Type 0) → List ℕ → Type 0
 Each P [] = Unit {0}
 Each P (x ∷ xs) = P x × Each P xs
 
--- what holds of each of them holds of one of them
+-- and so of any one of them
 pub of-one : (P : ℕ → Type 0) (ks : List ℕ) → Each P ks → (k : ℕ) → OneOf ks k → P k
 of-one P [] all k h = absurd h
 of-one P (x ∷ []) all k h = rw h (all .0)
@@ -28,26 +30,26 @@ of-one P (x ∷ y ∷ ks) all k (inr h) = of-one P (y ∷ ks) (all .1) k h
 
 -- ---- the number that is left
 
--- what the default of a match knows: what was known before, and that k is none of the numbers listed
+-- what the default of a match knows: what was told before, and that k is none of the numbers listed
 abbrev Unlisted : Type 0 → ℕ → List ℕ → Type 0
-Unlisted known k [] = known
-Unlisted known k (x ∷ xs) = Unlisted (known × (k ≡ x → ⊥)) k xs
+Unlisted before k [] = before
+Unlisted before k (x ∷ xs) = Unlisted (before × (k ≡ x → ⊥)) k xs
 
-only : (k x : ℕ) → oneOf k (x ∷ []) ≡ true → k ≡ x
+only : (k x : ℕ) → oneOf k (x ∷ []) ≡ true → x ≡ k
 only k x = by (eqb k x) (eqb-true k x)
   where
-    by : (b : Bool) → (b ≡ true → k ≡ x) → b || false ≡ true → k ≡ x
-    by true same h = same refl
+    by : (b : Bool) → (b ≡ true → k ≡ x) → b || false ≡ true → x ≡ k
+    by true same h = sym (same refl)
     by false same h = absurd (false-true h)
 
-unlisted : (known : Type 0) (k : ℕ) (xs : List ℕ) (x : ℕ) → Unlisted known k xs → known × (oneOf k (xs ++ (x ∷ [])) ≡ true → k ≡ x)
-unlisted known k [] x u = (u, only k x)
-unlisted known k (y ∷ ys) x u =
-    let rest = unlisted (known × (k ≡ y → ⊥)) k ys x u in
+unlisted : (before : Type 0) (k : ℕ) (xs : List ℕ) (x : ℕ) → Unlisted before k xs → before × (oneOf k (xs ++ (x ∷ [])) ≡ true → x ≡ k)
+unlisted before k [] x u = (u, only k x)
+unlisted before k (y ∷ ys) x u =
+    let rest = unlisted (before × (k ≡ y → ⊥)) k ys x u in
     (rest .0 .0, λ h. rest .1 (rw (ne-eqb k y (rest .0 .1)) at h))
 
 -- one of several, and none of the first ones, is the last
-pub last-one : {k : ℕ} (xs : List ℕ) (x : ℕ) → Unlisted (Unit {0}) k xs → oneOf k (xs ++ (x ∷ [])) ≡ true → k ≡ x
+pub last-one : {k : ℕ} (xs : List ℕ) (x : ℕ) → Unlisted (Unit {0}) k xs → oneOf k (xs ++ (x ∷ [])) ≡ true → x ≡ k
 last-one {k} xs x u = unlisted (Unit {0}) k xs x u .1
 
 lower : {k n : ℕ} → (k ≡ suc n → ⊥) → k ≤ suc n → k ≤ n

@@ -1,5 +1,5 @@
--- What a value of the code shows. A value that shows another kind is no Address, so nothing more is asked of it; an Address is
--- asked for its family besides.
+-- What a value of the code shows. A number is read by one law over its width. A value that shows another kind than Address is none, so
+-- nothing more is asked of it; an Address is asked for its family besides.
 -- Assumes nothing.
 use Prim.Native.Nat.{ℕ, _<_, _≤_}
 use mathlib.Core.Path.{_≡_, refl, sym, ap, _∙_}
@@ -8,7 +8,8 @@ use mathlib.Core.List.{List}
 use lib.ListN.{length}
 use lib.Dec.{ltb, eqb}
 use borrow.Author.Tests.{lt-ltb, le-ltb, eqb-false}
-use Rattle.octets.specs.Octets.{be}
+use Rattle.octets.specs.Octets.{be, Reads}
+use Rattle.octets.proofs.Numbers.{bytes, read-at}
 use Rattle.rfc6733.specs.Flags.{dataValue, dataLength, flag}
 use Rattle.rfc6733.specs.Value as rfc
 use Rattle.rfc6733.specs.Value.{value, address, unhandled, fixed}
@@ -33,10 +34,10 @@ pub too-few : (w k : ℕ) (s : List ℕ) (r : Read) → length s < w → Made Un
 unfolding fixed
 too-few w k s r few made = rw (lt-ltb _ _ few) (read-as r Unhandled dataLength made)
 
-pub enough : (w : ℕ) (s : List ℕ) (v : Value) (k e : ℕ) → w ≤ length s → kindOf v ≡ k → numberOf v ≡ be w s 0
+pub enough : (w : ℕ) (s : List ℕ) (v : Value) (k n e : ℕ) → w ≤ length s → (kindOf v ≡ k) × (numberOf v ≡ n) → Reads w (bytes w s 0) n
     → e ≡ flag (ltb w (length s)) dataLength → readAs (record { value = v; errors = e }) ≡ fixed w k s
 unfolding fixed readAs
-enough w s v k e some kind number raised = rw (le-ltb _ _ some, kind, number, raised)
+enough w s v k n e some is read raised = rw (le-ltb _ _ some, is .0, is .1, read-at w s 0 n read, raised)
 
 fixed-kind : (w k : ℕ) (s : List ℕ) → eqb k address ≡ false → eqb (fixed w k s .kind) address ≡ false
 unfolding fixed

@@ -1,10 +1,8 @@
 -- `fixed_32` meets its contract: with too few bytes it is the definition's first case. Otherwise the number is read at the front, and
 -- the flag is raised where bytes are left over.
 -- Assumes nothing.
-use mathlib.Core.Path.{_∙_}
 use native.Mathlib.Omega.{arith}
 use borrow.Author.Needs.{needs}
-use Rattle.octets.proofs.Numbers.{read-at}
 use Rattle.value.proofs.Shown.{too-few, enough}
 use Rattle.value.proofs.Read.fixed_32.Statement.{statement}
 use Rattle.value.proofs.Read.fixed_32.Tie as tie
@@ -13,10 +11,7 @@ returns : tie.Need-returns
 returns c = too-few _ _ _ _ (omega arith) (c .unhandled .ensures)
 
 returns-2 : tie.Need-returns-2
-returns-2 c =
-    let made = c .before .of-32 .ensures in
-    let read = c .before .before .be-u32 .ensures in
-    enough 4 _ _ _ _ (omega arith) (made .0) (made .1 ∙ read-at 4 _ 0 _ read) (c .raised .ensures)
+returns-2 c = enough 4 _ _ _ _ _ (omega arith) (c .before .of-32 .ensures) (c .before .before .be-u32 .ensures) (c .raised .ensures)
 
 pub fixed-32-spec : {M : Type 1} → statement M
 fixed-32-spec =

@@ -1,14 +1,14 @@
 -- `Value::new` meets its contract: at each kind the definition has one form, and the arm of that kind reads it. What no arm names is
 -- Unhandled.
 -- Assumes nothing.
-use mathlib.Core.Path.{refl, ap}
+use mathlib.Core.Path.{refl}
 use mathlib.Core.Logic.{inl, inr}
 use borrow.Author.Needs.{needs}
 use Rattle.rfc6733.specs.Dictionary.{sawp, rfc}
 use Rattle.rfc6733.proofs.Listed.{one-of}
 use Rattle.attribute.specs.Attributes.{dictionary}
 use Rattle.value.specs.declared.Value.the-variants.{UTF8String, DiameterIdentity, DiameterURI}
-use Rattle.value.specs.Values.{kinds32, kinds64, known}
+use Rattle.value.specs.Values.{kinds32, kinds64}
 use Rattle.value.proofs.KnownKinds.{none-known}
 use Rattle.value.proofs.NewValue.{octet-string, not-handled, number-32, number-64, text-kind, group-kind, address-kind}
 use Rattle.value.proofs.Value.new.Statement.{statement}
@@ -34,18 +34,18 @@ returns-4 c = group-kind _ _ _ _ _ (c .before .before .match .keys4) (c .tested 
 
 returns-5 : tie.Need-returns-5
 returns-5 c =
-    text-kind _ _ (c .before .before .before .before .args .kind) _ _ UTF8String (ap known (c .before .before .match .keys5)) (c .tested2 .ensures)
-    (inl refl) refl (c .before .is-utf8 .ensures)
+    text-kind _ _ _ _ _ UTF8String (c .before .before .match .keys5) (c .tested2 .ensures) (inl refl) refl
+    (c .before .is-utf8 .ensures)
 
 returns-6 : tie.Need-returns-6
 returns-6 c =
-    text-kind _ _ (c .before .before .before .before .args .kind) _ _ DiameterIdentity (ap known (c .before .before .match .keys6)) (c .tested3 .ensures)
-    (inr (inl refl)) refl (c .before .is-utf82 .ensures)
+    text-kind _ _ _ _ _ DiameterIdentity (c .before .before .match .keys6) (c .tested3 .ensures) (inr (inl refl)) refl
+    (c .before .is-utf82 .ensures)
 
 returns-7 : tie.Need-returns-7
 returns-7 c =
-    text-kind _ _ (c .before .before .before .before .args .kind) _ _ DiameterURI (ap known (c .before .before .match .keys7)) (c .tested4 .ensures)
-    (inr (inr refl)) refl (c .before .is-utf83 .ensures)
+    text-kind _ _ _ _ _ DiameterURI (c .before .before .match .keys7) (c .tested4 .ensures) (inr (inr refl)) refl
+    (c .before .is-utf83 .ensures)
 
 returns-8 : tie.Need-returns-8
 unfolding dictionary sawp

@@ -1,6 +1,6 @@
 -- `of_32` meets its contract: each arm makes the value of its own kind, and a kind of 32 bits that no arm names is Time.
 -- Assumes nothing.
-use mathlib.Core.Path.{refl, sym}
+use mathlib.Core.Path.{refl}
 use mathlib.Core.List.{[], _∷_}
 use borrow.Author.Needs.{needs}
 use Rattle.rfc6733.specs.Value.{integer32, unsigned32, float32, enumerated, time}
@@ -10,7 +10,7 @@ use Rattle.value.proofs.Value.of_32.Tie as tie
 
 returns-5 : tie.Need-returns-5
 returns-5 c =
-    (sym (last-one (integer32 ∷ unsigned32 ∷ float32 ∷ enumerated ∷ []) time (c .match .rest) (c .before .pre)), refl)
+    (last-one (integer32 ∷ unsigned32 ∷ float32 ∷ enumerated ∷ []) time (c .match .rest) (c .before .pre), refl)
 
 pub of-32-spec : {M : Type 1} → statement M
 of-32-spec = tie.close (tie.spec (λ c. search needs) (λ c. search needs) (λ c. search needs) (λ c. search needs) returns-5)
