@@ -19,7 +19,7 @@ use Rattle.table.specs.Rules.{Unpadded, Leaf, Valid}
 use Rattle.table.specs.Tables.{run, one}
 use Rattle.table.proofs.Lengths.{head-length}
 use Rattle.table.proofs.Turns.{Turn}
-use Rattle.writer.specs.declared.Taken.{Taken}
+use Rattle.writer.specs.declared.emit.Taken.{Taken}
 use Rattle.writer.specs.Emitting.{dataIn, Put, Ready, Done}
 use Rattle.writer.proofs.Leaves.{leaf-sizes}
 use Rattle.writer.proofs.Steps.{Front, front, Step, step}

@@ -15,7 +15,7 @@ use Rattle.rfc6733.specs.Writer.{recordAt, tableOf, isGroup, headOf, statedData
 use Rattle.table.specs.Forests.{count, size}
 use Rattle.table.specs.Rules.{Valid}
 use Rattle.table.specs.Tables.{run, one}
-use Rattle.writer.specs.declared.Measured.the-variants.{Over, Size}
+use Rattle.writer.specs.declared.size.Measured.the-variants.{Over, Size}
 use Rattle.writer.specs.Sizing.{Orderly, sizedOf}
 use Rattle.writer.proofs.Steps.{Front, front, Step, step}
 

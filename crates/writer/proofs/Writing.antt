@@ -24,7 +24,7 @@ use Rattle.table.proofs.Kept.{valid-kept}
 use Rattle.table.proofs.Lengths.{long, total-size}
 use Rattle.table.proofs.Tables.{table-length}
 use Rattle.table.proofs.Written.{writable-written}
-use Rattle.writer.specs.declared.Taken.{Taken}
+use Rattle.writer.specs.declared.emit.Taken.{Taken}
 use Rattle.writer.specs.Emitting.{Done}
 
 -- ---- the whole table is one run

@@ -10,7 +10,7 @@ use Rattle.rfc6733.specs.Forest.{Forest}
 use Rattle.rfc6733.specs.Writer.{tableOf, statedData, forestBytes, most24}
 use Rattle.table.specs.Forests.{count}
 use Rattle.table.specs.Rules.{Leaf, Valid}
-use Rattle.writer.specs.declared.Taken.{Taken}
+use Rattle.writer.specs.declared.emit.Taken.{Taken}
 
 -- ---- a record that is no group
 

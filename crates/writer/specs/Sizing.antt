@@ -8,8 +8,8 @@ use Rattle.rfc6733.specs.Forest.{Forest}
 use Rattle.rfc6733.specs.Writer.{tableOf, most24}
 use Rattle.table.specs.Forests.{count, size}
 use Rattle.table.specs.Rules.{Valid}
-use Rattle.writer.specs.declared.Measured.{Measured}
-use Rattle.writer.specs.declared.Measured.the-variants.{Over, Size}
+use Rattle.writer.specs.declared.size.Measured.{Measured}
+use Rattle.writer.specs.declared.size.Measured.the-variants.{Over, Size}
 
 -- the table is valid at a depth, whatever its places point into
 pub record Orderly (depth : ℕ) (table : List ℕ) (left : ℕ) : Type 0 where

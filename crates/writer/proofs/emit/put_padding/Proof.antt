@@ -1,0 +1,44 @@
+-- `put_padding` meets its contract: the bytes that `to_be_u24` gives are the definition's, and as many of them are copied as the record
+-- says.
+-- Assumes nothing.
+use mathlib.Core.Path.{sym, _∙_}
+use native.Mathlib.Omega.{arith}
+use lib.ListN.{take, length-take}
+use denote.Ref.{now}
+use borrow.Author.Needs.{needs}
+use Rattle.table.proofs.Lengths.{pad-length}
+use Rattle.record.specs.Stored.{recordAs}
+use Rattle.writer.proofs.Heads.{copied}
+use Rattle.writer.proofs.emit.put_padding.Statement.{statement}
+use Rattle.writer.proofs.emit.put_padding.Tie as tie
+
+slice-aggregate-copy : tie.Need-slice-aggregate-copy
+unfolding recordAs
+slice-aggregate-copy c =
+    let start = c .before .before .before .before in
+    rw (c .before .before .to-be-u24 .ensures) (sym (pad-length (recordAs (start .args .r)) (start .pre .1)))
+
+copy-requires : tie.Need-copy-requires
+copy-requires c κs =
+    let start = c .before .before .before .before .before in
+    omega (arith, start .pre, length-take (start .args .r .padding) (c .before .before .before .to-be-u24 .result))
+
+returns : tie.Need-returns
+unfolding recordAs
+returns c =
+    let start = c .before .before .before .before .before .before .before .before in
+    let r = start .args .r in
+    let bytes = c .before .before .before .before .before .before .to-be-u24 in
+    c .before .before .copy .ensures .1 ∙ copied (take (r .padding) (bytes .result)) (now (start .args .out)) ∙ rw (bytes .ensures)
+
+pub put-padding-spec : {M : Type 1} → statement M
+put-padding-spec =
+    tie.close
+    (tie.spec
+    (λ c κs. search needs)
+    (λ c. search needs)
+    (λ c. search needs)
+    slice-aggregate-copy
+    copy-requires
+    (λ c. search needs)
+    returns)

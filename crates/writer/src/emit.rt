@@ -1,0 +1,133 @@
+// Writes the AVPs of a table that is known to keep the rules and to fit: the run and the AVP call each other in turn.
+use super::rules::has_vendor;
+use super::rules::header_size;
+use attribute::kinds::GROUPED;
+use record::Record;
+ghost use mathlib.Core.Path.{_≡_};
+ghost use Prim.Native.Nat.{_+_, _≤_, _<_};
+ghost use lib.ListN.{length};
+ghost use lib.Seq.{sets};
+ghost use Rattle.octets.specs.Octets.{octets, pack, over};
+ghost use Rattle.rfc6733.specs.Record.{recordSize};
+ghost use Rattle.rfc6733.specs.Writer.{recordAt, headOf, avpBytes};
+ghost use Rattle.table.specs.Parts.{headFields, padBytes};
+ghost use Rattle.table.specs.Tables.{run, one};
+ghost use Rattle.record.specs.Stored.{recordAs};
+ghost use Rattle.writer.specs.Emitting.{dataIn, LeafRoom, Put, Ready, Done};
+
+// How many records were taken, and the bytes of their AVPs.
+pub(super) struct Taken {
+    pub records: usize,
+    pub size: usize,
+}
+
+pub(super) fn put_u8(out: &mut [u8], at: usize, v: u8)
+    requires { ⌜ at < length (now out) ⌝ }
+    ensures { λ _. ⌜ now (out .exit) ≡ sets (now (out .entry)) at (octets 1 v) ⌝ }
+{
+    out[at] = v;
+}
+
+pub(super) fn put_u24(out: &mut [u8], at: usize, v: u32)
+    requires { ⌜ at + 3 ≤ length (now out) ⌝ }
+    ensures { λ _. ⌜ now (out .exit) ≡ sets (now (out .entry)) at (octets 3 v) ⌝ }
+{
+    let b = octets::to_be_u24(v);
+    out[at] = b[0];
+    out[at + 1] = b[1];
+    out[at + 2] = b[2];
+}
+
+pub(super) fn put_u32(out: &mut [u8], at: usize, v: u32)
+    requires { ⌜ at + 4 ≤ length (now out) ⌝ }
+    ensures { λ _. ⌜ now (out .exit) ≡ sets (now (out .entry)) at (octets 4 v) ⌝ }
+{
+    let b = octets::to_be_u32(v);
+    out[at] = b[0];
+    out[at + 1] = b[1];
+    out[at + 2] = b[2];
+    out[at + 3] = b[3];
+}
+
+// Puts the header of an AVP (RFC 6733, section 4.1), with its length.
+fn put_head(r: Record, n: u32, out: &mut [u8])
+    requires { ⌜ (headOf (recordAs r) ≤ length (now out)) × (8 ≤ length (now out)) ⌝ }
+    ensures { λ _. ⌜ now (out .exit) ≡ over (pack (headFields (recordAs r) n)) (now (out .entry)) ⌝ }
+{
+    put_u32(out, 0, r.code);
+    put_u8(out, 4, r.flags);
+    put_u24(out, 5, n);
+    if !has_vendor(r) {
+        return;
+    }
+    put_u32(out, 8, r.vendor);
+}
+
+fn put_padding(r: Record, out: &mut [u8])
+    requires { ⌜ (r .padding ≤ length (now out)) × (r .padding ≤ 3) ⌝ }
+    ensures { λ _. ⌜ now (out .exit) ≡ over (padBytes (recordAs r)) (now (out .entry)) ⌝ }
+{
+    let pads = octets::to_be_u24(r.pads);
+    let size = r.padding as usize;
+    bytes::copy(&pads[..size], out);
+}
+
+// Puts the AVP of a record that is no group, with its data from `pool`, and answers its size.
+fn emit_leaf(r: Record, pool: &[u8], out: &mut [u8]) -> usize
+    requires { ⌜ LeafRoom (recordAs r) (now pool) (length (now out)) ⌝ }
+    ensures { λ n. ⌜ Put n (avpBytes (recordAs r) (dataIn (now (pool .entry)) (recordAs r))) (now (out .entry)) (now (out .exit)) ⌝ }
+{
+    let header_size = header_size(r);
+    let length = r.length as usize;
+    let from = r.place as usize;
+    let to = from + (length - header_size);
+    put_head(r, r.length, out);
+    bytes::copy(&pool[from..to], &mut out[header_size..]);
+    put_padding(r, &mut out[length..]);
+    length + r.padding as usize
+}
+
+// Puts the run that `table` starts with, its records at `depth` with their members.
+pub(super) fn emit_run(table: &[u8], pool: &[u8], depth: u8, out: &mut [u8]) -> Taken
+    requires { ⌜ Ready (run depth (now table)) depth (now table) (now pool) (length (now out)) ⌝ }
+    ensures { λ t. ⌜ Done (run depth (now (table .entry))) (now (pool .entry)) t (now (out .entry)) (now (out .exit)) ⌝ }
+{
+    let mut records: usize = 0;
+    let mut size: usize = 0;
+    while records < table.len() / Record::SIZE {
+        let r = Record::get(&table[records * Record::SIZE..]);
+        if r.depth < depth {
+            return Taken { records, size };
+        }
+        let t = emit_avp(r, &table[records * Record::SIZE..], pool, &mut out[size..]);
+        records += t.records;
+        size += t.size;
+    }
+    Taken { records, size }
+}
+
+// Puts the record `r` that `table` starts with. The members of a group go into the part of the output after its header,
+// which is put when their size is known.
+fn emit_avp(r: Record, table: &[u8], pool: &[u8], out: &mut [u8]) -> Taken
+    requires { ⌜ (recordAs r ≡ recordAt (now table)) × (recordSize ≤ length (now table)) ⌝ }
+    requires { ⌜ Ready (one (now table)) (r .depth) (now table) (now pool) (length (now out)) ⌝ }
+    ensures { λ t. ⌜ Done (one (now (table .entry))) (now (pool .entry)) t (now (out .entry)) (now (out .exit)) ⌝ }
+{
+    if r.kind == GROUPED {
+        let header_size = header_size(r);
+        let members = emit_run(
+            &table[Record::SIZE..],
+            pool,
+            r.depth + 1,
+            &mut out[header_size..],
+        );
+        let length = header_size + members.size;
+        put_head(r, length as u32, out);
+        return Taken {
+            records: 1 + members.records,
+            size: length,
+        };
+    }
+    let size = emit_leaf(r, pool, out);
+    Taken { records: 1, size }
+}
