@@ -15,8 +15,8 @@ unfoldable pub readingOf : Bool → Reading
 readingOf true = Rfc
 readingOf false = Sawp
 
-unfoldable pub fieldsOf : ℕ → ℕ → ℕ → ℕ → ℕ → Fields
-fieldsOf f c a h e = record { flags = f; code = c; appId = a; hopId = h; endId = e }
+unfoldable pub fieldsGiven : ℕ → ℕ → ℕ → ℕ → ℕ → Fields
+fieldsGiven f c a h e = record { flags = f; code = c; appId = a; hopId = h; endId = e }
 
 -- number, amount; flags, records, tried, length; the header's fields
 abbrev pub result : ℕ → ℕ → Counts → Header → List ℕ

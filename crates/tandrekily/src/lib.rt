@@ -19,7 +19,7 @@ ghost use Rattle.header.specs.Parsed as header;
 ghost use Rattle.header.specs.Parsed.{headerAs};
 ghost use Rattle.diameter.specs.Answers.{oneAs, answerOf, avpAnswerOf};
 ghost use Rattle.writer.specs.Answers as writer;
-ghost use Rattle.tandrekily.specs.Results.{readingOf, fieldsOf, result, refusal, messageResult, avpResult, writtenResult};
+ghost use Rattle.tandrekily.specs.Results.{readingOf, fieldsGiven, result, refusal, messageResult, avpResult, writtenResult};
 
 /// How many numbers a result has. include/tandrekily.h names them.
 pub const RESULT: usize = 13;
@@ -200,8 +200,8 @@ pub extern "C" fn tandrekily_write(
     out: &mut [u8],
     result: &mut [u64; RESULT],
 )
-    ensures result { λ _. ⌜ now (result .exit) ≡ writtenResult (written (fieldsOf flags code «app_id» «hop_id» «end_id») (now (table .entry)) (now (pool .entry)) (length (now (out .entry)))) ⌝ }
-    ensures out { λ _. ⌜ now (out .exit) ≡ output (written (fieldsOf flags code «app_id» «hop_id» «end_id») (now (table .entry)) (now (pool .entry)) (length (now (out .entry)))) (tableBytes (fieldsOf flags code «app_id» «hop_id» «end_id») (now (table .entry)) (now (pool .entry))) (now (out .entry)) ⌝ }
+    ensures result { λ _. ⌜ now (result .exit) ≡ writtenResult (written (fieldsGiven flags code «app_id» «hop_id» «end_id») (now (table .entry)) (now (pool .entry)) (length (now (out .entry)))) ⌝ }
+    ensures out { λ _. ⌜ now (out .exit) ≡ output (written (fieldsGiven flags code «app_id» «hop_id» «end_id») (now (table .entry)) (now (pool .entry)) (length (now (out .entry)))) (tableBytes (fieldsGiven flags code «app_id» «hop_id» «end_id») (now (table .entry)) (now (pool .entry))) (now (out .entry)) ⌝ }
 {
     let fields = Fields {
         flags,

@@ -2,12 +2,12 @@
 -- Assumes nothing.
 use borrow.Author.Needs.{needs}
 use Rattle.writer.specs.Answers.{fieldsAs}
-use Rattle.tandrekily.specs.Results.{fieldsOf}
+use Rattle.tandrekily.specs.Results.{fieldsGiven}
 use Rattle.tandrekily.proofs.tandrekily_write.Statement.{statement}
 use Rattle.tandrekily.proofs.tandrekily_write.Tie as tie
 
 returns : tie.Need-returns
-unfolding fieldsAs fieldsOf
+unfolding fieldsAs fieldsGiven
 returns c =
     let e = c .before .before .before .write .ensures in
     (rw (e .0) at (c .of-written .ensures), rw (e .0) at (e .1))
