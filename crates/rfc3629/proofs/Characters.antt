@@ -11,9 +11,10 @@ use native.Mathlib.Omega.{arith}
 use lib.Dec.{leb, eqb, leb·zero}
 use lib.ListN.{length, getD, drop, length-drop, drop-of-length-le}
 use lib.Seq.{drop-drop, drop-cons, getD-drop}
-use borrow.Author.Tests.{not-true, eqb-true, eqb-false, eq-eqb, ne-eqb, le-leb}
+use borrow.Author.Tests.{not-true, eqb-true, eqb-false, eq-eqb, ne-eqb, le-leb, leb-true}
 use Rattle.octets.specs.Run.{tree, tiles, after}
 use Rattle.octets.proofs.Runs.{Sound, tree-none, tree-broken, tree-plain}
+use Rattle.rfc3629.specs.Ascii.{allAscii, asciiFront}
 use Rattle.rfc3629.specs.Utf8.{Range, within, matches, matchesAny, utf8-1, utf8-2, utf8-3, utf8-4, charSize, characters, wellFormed}
 
 -- ---- a match has a byte for each range
@@ -140,3 +141,20 @@ step s at n l e h =
           ap (λ (u : List ℕ). tiles (tree characters u)) (sym (drop-drop n at s) ∙ ap (λ (k : ℕ). drop k t) e)
           ∙ sym (ap tiles (tree-plain characters sound t whole refl));
     }
+
+-- n bytes of ASCII are n characters, and are passed
+passed : (s : List ℕ) (at n : ℕ) → at + n ≤ length s → allAscii n (drop at s) ≡ true → Step s at n
+passed s at zero h e = record { fits = h; same = ap (λ (k : ℕ). wellFormed (drop k s)) (add-zero at) }
+passed s at (suc n) h e =
+    let both = and-eq-true-iff (allAscii n (drop at s)) (leb (getD (drop at s) n 0) 0x7F) .0 e in
+    let before = passed s at n (omega arith) (both .0) in
+    let low : getD s (at + n) 0 ≤ 0x7F = rw (← getD-drop at s n 0) (leb-true _ _ (both .1)) in
+    let last = step s (at + n) 1 (omega arith) (ascii s (at + n) (omega arith) low) (omega arith) in
+    let next : at + suc n ≡ at + n + 1 = omega arith in
+    record { fits = h; same = ap (λ (k : ℕ). wellFormed (drop k s)) next ∙ last .same ∙ before .same }
+
+pub ascii-passed : (s : List ℕ) (at n : ℕ) → at ≤ length s → asciiFront n (drop at s) ≡ true → Step s at n
+unfolding asciiFront
+ascii-passed s at n h e =
+    let both = and-eq-true-iff (leb n (length (drop at s))) (allAscii n (drop at s)) .0 e in
+    passed s at n (omega (arith, leb-true n (length (drop at s)) (both .0), length-drop at s)) (both .1)

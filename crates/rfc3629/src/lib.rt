@@ -2,6 +2,8 @@
 // This crate knows nothing of Diameter.
 ghost use mathlib.Core.Path.{_≡_};
 ghost use mathlib.Core.List.{[], _∷_};
+ghost use lib.Dec.{leb};
+ghost use Rattle.rfc3629.specs.Ascii.{asciiFront};
 ghost use Rattle.rfc3629.specs.Utf8.{range, within, tail, utf8-2, utf8-3, utf8-4, matchesAny, charSize, wellFormed};
 
 // %xLOW-HIGH, and %xB for the range %xB-B. Tests are joined by `&` and `|`, which do not branch.
@@ -9,6 +11,13 @@ fn in_range(b: u8, low: u8, high: u8) -> bool
     ensures { λ r. ⌜ r ≡ within (range low high) b ⌝ }
 {
     (low <= b) & (b <= high)
+}
+
+// UTF8-1 = %x00-7F
+fn is_utf8_1(a: u8) -> bool
+    ensures { λ r. ⌜ r ≡ leb a 0x7F ⌝ }
+{
+    a <= 0x7F
 }
 
 // UTF8-tail = %x80-BF
@@ -55,8 +64,7 @@ fn char_size(s: &[u8]) -> usize
         return 0;
     }
     let a = s[0];
-    // UTF8-1 = %x00-7F
-    if a <= 0x7F {
+    if is_utf8_1(a) {
         return 1;
     }
     if n < 2 {
@@ -82,14 +90,35 @@ fn char_size(s: &[u8]) -> usize
     0
 }
 
+// Are there eight bytes, and are the first eight all UTF8-1?
+fn eight_utf8_1(s: &[u8]) -> bool
+    ensures { λ r. ⌜ r ≡ asciiFront 8 (now (s .entry)) ⌝ }
+{
+    if s.len() < 8 {
+        return false;
+    }
+    is_utf8_1(s[0])
+        & is_utf8_1(s[1])
+        & is_utf8_1(s[2])
+        & is_utf8_1(s[3])
+        & is_utf8_1(s[4])
+        & is_utf8_1(s[5])
+        & is_utf8_1(s[6])
+        & is_utf8_1(s[7])
+}
+
 // Is the text well-formed UTF-8?
 pub fn is_utf8(s: &[u8]) -> bool
     ensures { λ r. ⌜ r ≡ wellFormed (now (s .entry)) ⌝ }
 {
     let mut at: usize = 0;
     while at < s.len() {
-        // UTF8-1 without a call, since most texts are mostly ASCII
-        if s[at] <= 0x7F {
+        // eight at once, and one without a call, since most texts are mostly ASCII
+        if eight_utf8_1(&s[at..]) {
+            at += 8;
+            continue;
+        }
+        if is_utf8_1(s[at]) {
             at += 1;
             continue;
         }

@@ -8,7 +8,6 @@ use mathlib.Core.List.{List}
 use native.Mathlib.Omega.{arith}
 use denote.Ref.{now}
 use borrow.Author.Needs.{needs}
-use borrow.Author.Tests.{le-leb, lt-leb}
 use Rattle.rfc3629.specs.Utf8.{utf8-2, utf8-3, utf8-4, matchesAny, charSize}
 use Rattle.rfc3629.proofs.Characters.{short-1, short-2, short-3, short-4, first-1, first-2, first-3, first-4, size-is}
 use Rattle.rfc3629.proofs.char_size.Statement.{statement}
@@ -18,11 +17,11 @@ use Rattle.rfc3629.proofs.char_size.Tie as tie
 
 module _ (c : tie.Else2) where
   abbrev text-2 : List ℕ
-  text-2 = now (c .before .before .before .before .args .s)
+  text-2 = now (c .before .before .before .before .before .args .s)
 
   from-2 : {p q r : Bool} → matchesAny utf8-2 text-2 ≡ p → matchesAny utf8-3 text-2 ≡ q → matchesAny utf8-4 text-2 ≡ r
       → cond p 2 (cond q 3 (cond r 4 0)) ≡ charSize text-2
-  from-2 = size-is text-2 (first-1 text-2 (omega arith) ∙ lt-leb _ _ (c .if2 .left))
+  from-2 = size-is text-2 (first-1 text-2 (omega arith) ∙ sym (c .before .is-utf8-1 .ensures) ∙ c .if2 .left)
 
 test-2 : (c : tie.After-is-utf8-2) → matchesAny utf8-2 (text-2 (c .before .before .before)) ≡ c .is-utf8-2 .result
 test-2 c = first-2 (text-2 (c .before .before .before)) (omega arith) ∙ sym (c .is-utf8-2 .ensures)
@@ -56,8 +55,8 @@ returns c =
 
 returns-2 : tie.Need-returns-2
 returns-2 c =
-    let s = now (c .before .before .before .before .args .s) in
-    size-is s (first-1 s (omega arith) ∙ le-leb _ _ (c .if2 .taken)) refl refl refl
+    let s = now (c .before .before .before .before .before .args .s) in
+    size-is s (first-1 s (omega arith) ∙ sym (c .before .is-utf8-1 .ensures) ∙ c .if2 .taken) refl refl refl
 
 returns-3 : tie.Need-returns-3
 returns-3 c =
@@ -87,6 +86,7 @@ char-size-spec =
     (tie.spec
     returns
     (λ c. search needs)
+    (λ c κs. search needs)
     returns-2
     returns-3
     (λ c. search needs)
