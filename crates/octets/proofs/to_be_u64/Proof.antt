@@ -17,19 +17,4 @@ returns c =
     (ap (λ (l : List ℕ). octets 4 (v / 256 ^ 4) ++ l) (written-low 4 v) ∙ sym (written-parts 4 4 v))
 
 pub to-be-u64-spec : {M : Type 1} → statement M
-to-be-u64-spec =
-    tie.close
-    (tie.spec
-    (λ c. search needs)
-    (λ c κs. search needs)
-    (λ c. search needs)
-    (λ c κs. search needs)
-    (λ c. search needs)
-    (λ c. search needs)
-    (λ c. search needs)
-    (λ c. search needs)
-    (λ c. search needs)
-    (λ c. search needs)
-    (λ c. search needs)
-    (λ c. search needs)
-    returns)
+to-be-u64-spec {M} = tie.close (search (tie.spec {M = M} (λ c. search needs) (λ c κs. search needs) (λ c. search needs), returns, needs))

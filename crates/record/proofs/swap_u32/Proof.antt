@@ -11,13 +11,4 @@ unfolding octets
 returns c = turned 4 _ _ (rw (c .before .to-be-u32 .ensures) at (c .be-u32 .ensures))
 
 pub swap-u32-spec : {M : Type 1} → statement M
-swap-u32-spec =
-    tie.close
-    (tie.spec
-    (λ c κs. search needs)
-    (λ c. search needs)
-    (λ c. search needs)
-    (λ c. search needs)
-    (λ c. search needs)
-    (λ c κs. search needs)
-    returns)
+swap-u32-spec = tie.close (search (tie.spec, returns, needs))

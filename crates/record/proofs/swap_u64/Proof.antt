@@ -11,17 +11,4 @@ unfolding octets
 returns c = turned 8 _ _ (rw (c .before .to-be-u64 .ensures) at (c .be-u64 .ensures))
 
 pub swap-u64-spec : {M : Type 1} → statement M
-swap-u64-spec =
-    tie.close
-    (tie.spec
-    (λ c κs. search needs)
-    (λ c. search needs)
-    (λ c. search needs)
-    (λ c. search needs)
-    (λ c. search needs)
-    (λ c. search needs)
-    (λ c. search needs)
-    (λ c. search needs)
-    (λ c. search needs)
-    (λ c κs. search needs)
-    returns)
+swap-u64-spec = tie.close (search (tie.spec, returns, needs))
