@@ -4,10 +4,12 @@
 use Prim.Native.Nat.{ℕ}
 use mathlib.Core.Bool.{Bool, true, false}
 use mathlib.Core.List.{List, [], _∷_}
+use lib.ListN.{length}
 use Rattle.rfc6733.specs.Answer.{Answer, accepted, refused}
 use Rattle.rfc6733.specs.Header.{Header}
-use Rattle.rfc6733.specs.Decoder.{Counts, Message}
+use Rattle.rfc6733.specs.Decoder.{Counts, Message, capacity, decoded, avpAlone}
 use Rattle.rfc6733.specs.Writer.{Fields}
+use Rattle.attribute.specs.Attributes.{dictionary}
 use Rattle.attribute.specs.declared.Reading.{Reading}
 use Rattle.attribute.specs.declared.Reading.the-variants.{Sawp, Rfc}
 
@@ -60,3 +62,12 @@ avpResult (refused n a) = refusal n a
 unfoldable pub writtenResult : Answer ℕ → List ℕ
 writtenResult (accepted total) = result 0 0 (bytesAlone total) noHeader
 writtenResult (refused n a) = refusal n a
+
+-- ---- what the functions are asked
+
+-- a message or one AVP in a reading, with a depth limit and a lent store
+abbrev pub messageAsked : Bool → ℕ → List ℕ → List ℕ → Answer Message
+messageAsked rfc limit store input = decoded (dictionary (readingOf rfc)) limit (capacity (length store)) input
+
+abbrev pub avpAsked : Bool → ℕ → List ℕ → List ℕ → Answer Counts
+avpAsked rfc limit store input = avpAlone (dictionary (readingOf rfc)) limit (capacity (length store)) input

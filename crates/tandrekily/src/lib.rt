@@ -11,7 +11,7 @@ use writer::Written;
 ghost use mathlib.Core.Path.{_≡_};
 ghost use lib.ListN.{length};
 ghost use Rattle.rfc3629.specs.Utf8.{wellFormed};
-ghost use Rattle.rfc6733.specs.Decoder.{capacity, decoded, messageRecords, avpAlone, aloneRecords, headerAlone, stored};
+ghost use Rattle.rfc6733.specs.Decoder.{messageRecords, aloneRecords, headerAlone, stored};
 ghost use Rattle.rfc6733.specs.Signed.{unixSeconds};
 ghost use Rattle.rfc6733.specs.Writer.{written, tableBytes, output};
 ghost use Rattle.attribute.specs.Attributes.{dictionary};
@@ -19,7 +19,7 @@ ghost use Rattle.header.specs.Parsed as header;
 ghost use Rattle.header.specs.Parsed.{headerAs};
 ghost use Rattle.diameter.specs.Answers.{oneAs, answerOf, avpAnswerOf};
 ghost use Rattle.writer.specs.Answers as writer;
-ghost use Rattle.tandrekily.specs.Results.{readingOf, fieldsGiven, result, refusal, messageResult, avpResult, writtenResult};
+ghost use Rattle.tandrekily.specs.Results.{readingOf, fieldsGiven, result, refusal, messageResult, avpResult, writtenResult, messageAsked, avpAsked};
 
 /// How many numbers a result has. include/tandrekily.h names them.
 pub const RESULT: usize = 13;
@@ -158,8 +158,8 @@ pub extern "C" fn tandrekily_message(
     store: &mut [u8],
     result: &mut [u64; RESULT],
 )
-    ensures result { λ _. ⌜ now (result .exit) ≡ messageResult (decoded (dictionary (readingOf rfc)) limit (capacity (length (now (store .entry)))) (now (input .entry))) ⌝ }
-    ensures store { λ _. ⌜ now (store .exit) ≡ stored (decoded (dictionary (readingOf rfc)) limit (capacity (length (now (store .entry)))) (now (input .entry))) (messageRecords (dictionary (readingOf rfc)) (now (input .entry))) (now (store .entry)) ⌝ }
+    ensures result { λ _. ⌜ now (result .exit) ≡ messageResult (messageAsked rfc limit (now (store .entry)) (now (input .entry))) ⌝ }
+    ensures store { λ _. ⌜ now (store .exit) ≡ stored (messageAsked rfc limit (now (store .entry)) (now (input .entry))) (messageRecords (dictionary (readingOf rfc)) (now (input .entry))) (now (store .entry)) ⌝ }
 {
     *result = of_message(diameter::parse(reading_of(rfc), limit, input, store));
 }
@@ -181,8 +181,8 @@ pub extern "C" fn tandrekily_avp(
     store: &mut [u8],
     result: &mut [u64; RESULT],
 )
-    ensures result { λ _. ⌜ now (result .exit) ≡ avpResult (avpAlone (dictionary (readingOf rfc)) limit (capacity (length (now (store .entry)))) (now (input .entry))) ⌝ }
-    ensures store { λ _. ⌜ now (store .exit) ≡ stored (avpAlone (dictionary (readingOf rfc)) limit (capacity (length (now (store .entry)))) (now (input .entry))) (aloneRecords (dictionary (readingOf rfc)) (now (input .entry))) (now (store .entry)) ⌝ }
+    ensures result { λ _. ⌜ now (result .exit) ≡ avpResult (avpAsked rfc limit (now (store .entry)) (now (input .entry))) ⌝ }
+    ensures store { λ _. ⌜ now (store .exit) ≡ stored (avpAsked rfc limit (now (store .entry)) (now (input .entry))) (aloneRecords (dictionary (readingOf rfc)) (now (input .entry))) (now (store .entry)) ⌝ }
 {
     *result = of_avp(diameter::parse_avp(reading_of(rfc), limit, input, store));
 }
