@@ -1,5 +1,6 @@
 // `ours message|write FILE N`: decodes the message in FILE N times, or decodes it once and writes it N times.
 // Prints the records, the headers tried, and the bytes that each decoding cleared or each writing wrote.
+// `ours records FILE 1`: writes what was decoded, as `oracle records` does for the Rust.
 #include "tandrekily.h"
 #include <inttypes.h>
 #include <stdio.h>
@@ -49,13 +50,30 @@ static void encode(const uint64_t *read, uint64_t *result) {
     if (result[TANDREKILY_NUMBER] != TANDREKILY_ACCEPTED) stop("the table is refused");
 }
 
+// A big-endian number of so many bytes.
+static void put(uint64_t number, int bytes) {
+    while (bytes-- > 0) putchar((int)(number >> (8 * bytes) & 0xFF));
+}
+
+// The header as on the wire, flags, counts and length, and all records.
+static void put_all(const uint64_t *read) {
+    static const int sizes[] = {1, 3, 1, 3, 4, 4, 4};
+    for (int i = 0; i < 7; i++) put(read[TANDREKILY_VERSION + i], sizes[i]);
+    for (int i = TANDREKILY_FLAGS; i <= TANDREKILY_LENGTH; i++) put(read[i], 8);
+    fwrite(store, TANDREKILY_RECORD_SIZE, (size_t)read[TANDREKILY_RECORDS], stdout);
+}
+
 int main(int count, char **words) {
     uint64_t read[TANDREKILY_RESULT], written[TANDREKILY_RESULT];
-    if (count != 4) stop("usage: ours message|write FILE N");
+    if (count != 4) stop("usage: ours message|write|records FILE N");
     bool writing = strcmp(words[1], "write") == 0;
     load(words[2]);
     lend();
     for (int left = writing ? 1 : atoi(words[3]); left > 0; left--) decode(read);
+    if (strcmp(words[1], "records") == 0) {
+        put_all(read);
+        return 0;
+    }
     size_t rest = room - (size_t)read[TANDREKILY_RECORDS] * TANDREKILY_RECORD_SIZE;
     if (writing) {
         for (int left = atoi(words[3]); left > 0; left--) encode(read, written);

@@ -4,7 +4,7 @@ use beside::answer::{differences, hex, Answer, NAMES};
 use beside::cases::{Case, Cases, SORTS};
 use beside::frame::CAPACITY_MAX;
 use beside::{marked, wire, with_stack};
-use sawp_diameter::diameter::inside::RECORD;
+use sawp_diameter::diameter::inside::{self, RECORD};
 use std::collections::HashMap;
 use std::io::{BufReader, BufWriter, Read, Write};
 use std::path::PathBuf;
@@ -18,6 +18,7 @@ const USAGE: &str = "usage:
   oracle frame SORT NUMBER      a case as a frame, for a program
   oracle answer SORT NUMBER     its answer, as a program should write it
   oracle inputs FOLDER          the messages that instructions are counted for
+  oracle records FILE           what the Rust reads in a message of any length, as `bench/ours records` writes ours
   oracle sample FOLDER          a few cases of each sort, answer and flags: FOLDER/frames and FOLDER/answers
   oracle compare -- PROGRAM...  all cases against a program that answers frames
 options, before `--`:
@@ -70,6 +71,11 @@ fn main() -> ExitCode {
                 std::fs::write(format!("{folder}/{name}.bin"), &bytes).expect("FOLDER can be written");
                 println!("{name}.bin {} bytes", bytes.len());
             }
+            ExitCode::SUCCESS
+        }
+        ["records", file] => {
+            let bytes = std::fs::read(file).expect("FILE can be read");
+            with_stack(|| put(&records(&bytes)));
             ExitCode::SUCCESS
         }
         ["sample", folder] => {
@@ -137,6 +143,19 @@ fn sort_named(name: &str) -> Result<&'static str, String> {
 
 fn put(bytes: &[u8]) {
     std::io::stdout().write_all(bytes).expect("standard output");
+}
+
+/// The header as on the wire, flags, counts and length as numbers of 8 bytes, and all records. A refusal is nothing.
+fn records(bytes: &[u8]) -> Vec<u8> {
+    let Ok(read) = inside::message(bytes) else {
+        return Vec::new();
+    };
+    let mut out: Vec<u8> = read.header.into_iter().flatten().collect();
+    for n in [read.flags as usize, read.records.len(), read.tried, read.length] {
+        out.extend((n as u64).to_be_bytes());
+    }
+    out.extend(read.records.concat());
+    out
 }
 
 // ---- a sample
