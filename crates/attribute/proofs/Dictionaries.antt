@@ -1,5 +1,6 @@
 -- The kinds by code. A code past every code of a table is Unhandled, by induction over the table; the codes before it are one
--- computation. So the sawp dictionary is document 01's table at every code.
+-- computation. So the sawp dictionary is document 01's table at every code, the table of a reading gives its kinds, and both
+-- readings have the same groups.
 -- Assumes nothing.
 use Prim.Native.Nat.{ℕ, max, _≤_, _<_}
 use mathlib.Core.Path.{_≡_, refl, sym, ap, _∙_}

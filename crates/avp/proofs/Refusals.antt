@@ -1,5 +1,5 @@
--- `completeOf` and `frontOf` by cases: which facts lead to which answer, in the order of the refusals. Each refusal is the tests that fail, in their
--- order, and then the one that holds. A complete AVP passes them all.
+-- `completeOf` and `frontOf` by cases: which facts lead to which answer, in the order of the refusals. Each refusal is the tests that
+-- fail, in their order, and then the one that holds. A complete AVP passes them all.
 -- Assumes nothing.
 use Prim.Native.Nat.{ℕ, _-_, _≤_, _<_}
 use mathlib.Core.Path.{_≡_, refl, sym, _∙_}
@@ -15,7 +15,7 @@ use Rattle.rfc6733.proofs.Answers.{accepts}
 use Rattle.rfc6733.proofs.Complete as rfc
 use Rattle.rfc6733.proofs.Complete.{complete-whole, whole-complete}
 use Rattle.avp.specs.declared.AVP.{AVP}
-use Rattle.avp.specs.declared.Complete.the-variants as front
+use Rattle.avp.specs.declared.Complete.the-variants as found
 use Rattle.avp.specs.declared.Front.the-variants.{Whole, Incomplete, BadLength}
 use Rattle.avp.specs.Front.{avpOf, completeOf, answerOf, frontOf}
 
@@ -36,11 +36,11 @@ module _ (s : List ℕ) where
       by false t =
           absurd (false-true (sym e ∙ whole-complete s (record { eight = eight; long = long; room = ltb-false _ _ t })))
 
-  pub broken : complete s ≡ false → front.Broken ≡ completeOf s
+  pub broken : complete s ≡ false → found.Broken ≡ completeOf s
   unfolding completeOf
   broken e = rw e
 
-  pub whole : rfc.Whole s → (a : AVP) → a ≡ avpOf s → front.Whole a ≡ completeOf s
+  pub whole : rfc.Whole s → (a : AVP) → a ≡ avpOf s → found.Whole a ≡ completeOf s
   unfolding completeOf
   whole w a e = rw (whole-complete s w, e)
 

@@ -1,19 +1,19 @@
 -- What is known of a message once its header was accepted: its body is the run that the definition reads, and its counts lead to
 -- the definition's answer.
 -- Assumes nothing.
-use Prim.Native.Nat.{ℕ, _+_, _-_, _≤_, _<_, _^_}
-use mathlib.Core.Path.{_≡_, refl, sym, ap, _∙_}
+use Prim.Native.Nat.{ℕ, _-_, _≤_, _<_}
+use mathlib.Core.Path.{_≡_, sym, ap, _∙_}
 use mathlib.Core.Bool.{true, false}
 use mathlib.Core.List.{List}
 use native.Mathlib.Omega.{arith}
-use lib.ListN.{length, take, drop, length-take, length-drop}
+use lib.ListN.{length, take, drop}
 use Rattle.octets.specs.Run.{Tree, tree, tiles, deepest}
 use Rattle.rfc6733.specs.Answer.{passes, accepted, refused, noRecords}
 use Rattle.rfc6733.specs.Flags.{join}
 use Rattle.rfc6733.specs.Header as rfc
 use Rattle.rfc6733.specs.Header.{messageLength, headerOf, headerErrors, headerRefusals}
 use Rattle.rfc6733.specs.Dictionary.{Dictionary}
-use Rattle.rfc6733.specs.Record.{avps, errors, recordCount}
+use Rattle.rfc6733.specs.Record.{avps, errors}
 use Rattle.rfc6733.specs.Decoder as definition
 use Rattle.rfc6733.specs.Decoder.{headerAlone, messageBody, messageRun, messageRecords, messageOf, decoded, stored}
 use Rattle.rfc6733.proofs.Answers.{passed}

@@ -1,13 +1,13 @@
 -- The equations of `tree`, with no count in them, and induction over a run. A complete item takes a byte at least, so what is
 -- left after it is shorter; its payload is shorter too. Any count from the length on therefore gives the same tree.
 -- Assumes nothing.
-use Prim.Native.Nat.{ℕ, zero, suc, _+_, _-_, _≤_, _<_, max}
-use mathlib.Core.Path.{_≡_, refl, sym, ap, ap₂, _∙_}
+use Prim.Native.Nat.{ℕ, zero, suc, _+_, _-_, _≤_, _<_}
+use mathlib.Core.Path.{_≡_, refl, ap, ap₂, _∙_}
 use mathlib.Core.Bool.{Bool, true, false}
 use mathlib.Core.List.{List, [], _∷_, _++_}
 use native.Mathlib.Omega.{arith}
-use lib.ListN.{length, take, drop, length-take, length-drop, take-append-drop}
-use Rattle.octets.specs.Run.{Format, item, after, Tree, done, broken, plain, group, node, treeIn, tree, tiles, tried, deepest, covered}
+use lib.ListN.{length, length-take, length-drop, take-append-drop}
+use Rattle.octets.specs.Run.{Format, item, after, Tree, done, broken, plain, group, node, treeIn, tree, tiles, covered}
 
 -- the two Bools are not equal
 pub false-true : false ≡ true → ⊥

@@ -3,17 +3,15 @@
 -- message is bounded.
 -- Assumes nothing.
 use Prim.Native.Nat.{ℕ, _-_, _*_, _≤_}
-use mathlib.Core.Path.{_≡_, sym, ap, _∙_}
+use mathlib.Core.Path.{_≡_, sym, _∙_}
 use denote.Ref.{now}
 use Rattle.rfc6733.specs.Answer.{refused}
 use Rattle.rfc6733.specs.Decoder.{stored}
 use Rattle.rfc6733.proofs.Demand3.{headers-tried}
-use Rattle.attribute.specs.Attributes.{dictionary}
 use Rattle.diameter.specs.declared.Message.{Message}
 use Rattle.diameter.specs.declared.Decoded.the-variants.{Accepted}
 use Rattle.diameter.specs.Answers.{answerOf, messageAs}
 use Rattle.diameter.proofs.parse.Reads as parse
-use Rattle.diameter.proofs.parse_avp.Reads as parse-avp
 
 -- Demand 1: a refusal changes no lent byte
 pub refusal-changes-nothing : (κs : _) (a : _) (r : _) (s : _) (n amount : ℕ) → parse.Post κs a r s → answerOf r ≡ refused n amount

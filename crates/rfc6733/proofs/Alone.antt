@@ -2,19 +2,18 @@
 -- AVP's own bytes are a run of one, so a reader of AVPs has the same contract as a reader of runs.
 -- Assumes nothing.
 use Prim.Native.Nat.{ℕ, _+_, _≤_, _<_, max}
-use mathlib.Core.Path.{_≡_, refl, sym, ap, ap₂, _∙_}
-use mathlib.Core.Bool.{Bool, true, false, cond}
-use mathlib.Core.List.{List, [], _∷_, _++_, append-nil}
-use native.Mathlib.Nat.{add-zero}
+use mathlib.Core.Path.{_≡_, refl, sym, ap, _∙_}
+use mathlib.Core.Bool.{Bool, true, false}
+use mathlib.Core.List.{List, _++_, append-nil}
 use native.Mathlib.Omega.{arith}
 use lib.ListN.{length, take, drop, drop-of-length-le}
 use lib.Seq.{take-all}
-use Rattle.octets.specs.Run.{item, after, Tree, done, broken, plain, group, node, tree, tiles, tried, deepest}
-use Rattle.octets.proofs.Runs.{Parts, parts, tree-none, tree-step}
+use Rattle.octets.specs.Run.{item, after, Tree, done, plain, group, node, tree, tiles, tried, deepest}
+use Rattle.octets.proofs.Runs.{parts, tree-none, tree-step}
 use Rattle.rfc6733.specs.Flags.{join}
 use Rattle.rfc6733.specs.Avp.{avpSize, payload, complete, Exact}
 use Rattle.rfc6733.specs.Dictionary.{Dictionary}
-use Rattle.rfc6733.specs.Record.{Record, avps, errors, records, recordCount}
+use Rattle.rfc6733.specs.Record.{avps, errors, records, recordCount}
 use Rattle.rfc6733.proofs.Joins.{join-zero}
 use Rattle.rfc6733.proofs.Complete.{complete-whole, whole-complete}
 use Rattle.rfc6733.proofs.Items.{sound, item-same, item-length, item-whole}

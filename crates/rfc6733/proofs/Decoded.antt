@@ -2,21 +2,20 @@
 -- what stands at the front, and end with the run's own refusals.
 -- Assumes nothing.
 use Prim.Native.Nat.{ℕ, _≤_, _<_}
-use mathlib.Core.Path.{_≡_, refl, sym, ap, _∙_}
-use mathlib.Core.Bool.{Bool, true, false, cond, not, _&&_}
-use mathlib.Core.List.{List, [], _∷_, _++_}
+use mathlib.Core.Path.{_≡_, sym, _∙_}
+use mathlib.Core.Bool.{true, false, not}
+use mathlib.Core.List.{List, _∷_, _++_}
 use native.Mathlib.Omega.{arith}
 use lib.ListN.{length}
-use lib.Dec.{leb, ltb}
 use borrow.Author.Tests.{lt-ltb, le-ltb, le-leb, lt-leb}
 use Rattle.octets.specs.Run.{Tree, tiles, deepest}
-use Rattle.rfc6733.specs.Answer.{Answer, accepted, refused, Refusal, refuse, answer, passes, notTiled, tooDeep, noRecords, badDepth}
+use Rattle.rfc6733.specs.Answer.{accepted, refused, Refusal, refuse, answer, passes, notTiled, tooDeep, noRecords, badDepth}
 use Rattle.rfc6733.specs.Header.{headerRefusals}
 use Rattle.rfc6733.specs.Avp.{avpRefusals}
 use Rattle.rfc6733.specs.Dictionary.{Dictionary}
 use Rattle.rfc6733.specs.Record.{Record, recordCount}
 use Rattle.rfc6733.specs.Decoder.{limitRefusals, runRefusals, headerAlone, messageRun, messageRecords, messageRefusals, messageOf, decoded, aloneRun, aloneRecords, aloneRefusals, aloneOf, avpAlone}
-use Rattle.rfc6733.proofs.Answers.{answer-past, answer-first, passed}
+use Rattle.rfc6733.proofs.Answers.{answer-past, answer-first}
 use Rattle.rfc6733.proofs.RunRecords.{records-count}
 
 -- ---- the limit

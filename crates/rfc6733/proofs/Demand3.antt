@@ -2,7 +2,7 @@
 -- length less 20; and messages of 20 + 12k bytes reach that for every k whose length fits 24 bits.
 -- Assumes nothing.
 use Prim.Native.Nat.{ℕ, _+_, _-_, _*_, _≤_}
-use mathlib.Core.Path.{_≡_, refl, ap, _∙_}
+use mathlib.Core.Path.{_≡_, refl, ap}
 use mathlib.Core.List.{List}
 use native.Mathlib.Omega.{arith}
 use lib.ListN.{length, drop, length-take}
@@ -11,7 +11,7 @@ use Rattle.rfc6733.specs.Header.{messageLength}
 use Rattle.rfc6733.specs.Dictionary.{Dictionary, sawp, rfc}
 use Rattle.rfc6733.specs.Decoder.{Message, messageBody, messageRun, messageOf, decoded}
 use Rattle.rfc6733.specs.Writer.{most24}
-use Rattle.rfc6733.proofs.Accepted.{Accepted, when-accepted}
+use Rattle.rfc6733.proofs.Accepted.{when-accepted}
 use Rattle.rfc6733.proofs.Extremal.{Reaches, reached}
 use Rattle.rfc6733.proofs.Tried.{tried-bound}
 

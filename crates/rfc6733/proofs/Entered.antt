@@ -2,15 +2,15 @@
 -- up the same way. There are three cases: no group, a group that tiles, and one that does not.
 -- Assumes nothing.
 use Prim.Native.Nat.{ℕ, _+_, _≤_}
-use mathlib.Core.Path.{_≡_, refl, sym, ap, _∙_}
+use mathlib.Core.Path.{_≡_, refl}
 use mathlib.Core.Bool.{Bool, true, false, cond, _&&_}
-use mathlib.Core.List.{List, [], _∷_, _++_, append-nil}
+use mathlib.Core.List.{List, _∷_, append-nil}
 use native.Mathlib.Omega.{arith}
 use lib.Dec.{eqb}
 use Rattle.octets.specs.Run.{Tree, done, node, tree, tiles, deepest}
 use Rattle.rfc6733.specs.Flags.{join}
 use Rattle.rfc6733.specs.Avp as avp
-use Rattle.rfc6733.specs.Value.{Value, grouped, readAs}
+use Rattle.rfc6733.specs.Value.{Value, grouped}
 use Rattle.rfc6733.specs.Dictionary.{Dictionary}
 use Rattle.rfc6733.specs.Record.{kindOf, valueOf, ownErrors, recordOf, avps, tiling, errors, groupValue, records, recordCount}
 use Rattle.rfc6733.specs.Entered.{valueIn, entered}

@@ -1,32 +1,30 @@
 -- Demand 3, the bound is reached: k failing groups of 12 bytes try two headers each and have a record each, in every dictionary
 -- that takes Failed-AVP as Grouped. The tree of such a run is a chain of k groups, so all counts are inductions over k.
 -- Assumes nothing.
-use Prim.Native.Nat.{ℕ, zero, suc, _+_, _*_, _≤_, _<_}
-use mathlib.Core.Path.{_≡_, refl, sym, ap, _∙_}
-use mathlib.Core.Bool.{Bool, true, false, not, _&&_}
-use mathlib.Core.List.{List, [], _∷_, _++_}
+use Prim.Native.Nat.{ℕ, zero, suc, _+_, _*_, _≤_}
+use mathlib.Core.Path.{_≡_, refl, ap, _∙_}
+use mathlib.Core.Bool.{true}
+use mathlib.Core.List.{List, _++_}
 use native.Mathlib.Omega.{arith}
 use lib.ListN.{length, length-append}
-use lib.Dec.{leb, ltb, eqb}
 use borrow.Author.Tests.{le-ltb, le-leb, eq-eqb}
 use Rattle.octets.specs.Octets.{be}
-use Rattle.octets.specs.Run.{Format, item, after, Tree, done, broken, group, treeIn, tree, tiles, tried, deepest}
-use Rattle.octets.proofs.Runs.{tree-none, tree-group}
-use Rattle.rfc6733.specs.Answer.{accepted, passes, answer}
+use Rattle.octets.specs.Run.{item, after, Tree, done, broken, group, treeIn, tree, tiles, tried, deepest}
+use Rattle.octets.proofs.Runs.{tree-group}
+use Rattle.rfc6733.specs.Answer.{accepted}
 use Rattle.rfc6733.specs.Flags.{bit}
-use Rattle.rfc6733.specs.Header.{messageLength, headerRefusals}
 use Rattle.rfc6733.specs.Avp.{headSize, vendor, dataSize, padding, avpSize, payload, avpRefusals, complete}
 use Rattle.rfc6733.specs.Value.{grouped}
-use Rattle.rfc6733.specs.Dictionary.{Dictionary, sawp, rfc}
+use Rattle.rfc6733.specs.Dictionary.{Dictionary}
 use Rattle.rfc6733.specs.Record.{kindOf, avps, records}
-use Rattle.rfc6733.specs.Decoder.{Message, messageRun, messageRecords, messageRefusals, messageOf, decoded}
+use Rattle.rfc6733.specs.Decoder.{messageRun, messageRecords, messageRefusals, messageOf, decoded}
 use Rattle.rfc6733.specs.Marked.{failing}
 use Rattle.rfc6733.specs.Writer.{most24}
 use Rattle.rfc6733.specs.Extremal.{failingGroups, extremal}
 use Rattle.rfc6733.proofs.Answers.{accepts, passes-append}
-use Rattle.rfc6733.proofs.Complete.{Whole, whole-complete}
+use Rattle.rfc6733.proofs.Complete.{whole-complete}
 use Rattle.rfc6733.proofs.Items.{sound}
-use Rattle.rfc6733.proofs.Messages.{Read, message-read}
+use Rattle.rfc6733.proofs.Messages.{message-read}
 
 -- the tree of such a run
 abbrev chain : ℕ → Tree

@@ -1,13 +1,12 @@
 -- AVPs are items that a run may have: a complete one has at least 8 bytes, all there, and its data are shorter than it. Its
 -- fields are those that stand at the front of what is left of the run, since they lie within its size.
 -- Assumes nothing.
-use Prim.Native.Nat.{ℕ, _+_, _-_, _≤_, _<_}
-use mathlib.Core.Path.{_≡_, refl, sym, ap, ap₂, _∙_}
+use Prim.Native.Nat.{ℕ, _+_, _-_, _≤_}
+use mathlib.Core.Path.{_≡_, refl, ap, ap₂, _∙_}
 use mathlib.Core.Bool.{Bool, true, false, cond}
-use mathlib.Core.List.{List, []}
+use mathlib.Core.List.{List}
 use native.Mathlib.Omega.{arith}
-use lib.ListN.{length, take, drop, length-take, length-drop, drop-of-length-le}
-use lib.Seq.{take-take}
+use lib.ListN.{length, take, drop, length-take, length-drop}
 use Rattle.octets.specs.Octets.{be}
 use Rattle.octets.specs.Run.{Format, item}
 use Rattle.octets.proofs.Lists.{part-of-front}
@@ -15,7 +14,7 @@ use Rattle.octets.proofs.Numbers.{be-take}
 use Rattle.octets.proofs.Runs.{Sound}
 use Rattle.rfc6733.specs.Flags.{bit}
 use Rattle.rfc6733.specs.Avp.{code, flags, avpLength, vendorBit, headSize, vendor, dataSize, padding, avpSize, payload, complete}
-use Rattle.rfc6733.proofs.Complete.{Head, head, Whole, Sizes, sizes, complete-whole, whole-complete}
+use Rattle.rfc6733.proofs.Complete.{head, Whole, sizes, complete-whole}
 
 -- a and s have the same AVP at the front
 pub record Same (a s : List ℕ) : Type 0 where

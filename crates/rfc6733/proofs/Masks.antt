@@ -1,7 +1,7 @@
 -- A flags byte by masks, as the code asks it, and by division, as the definition says it. Said once over the bit.
 -- Assumes nothing.
 use Prim.Native.Nat.{ℕ, zero, suc, _+_, _-_, _*_, _/_, _%_, _^_, _<_}
-use mathlib.Core.Path.{_≡_, ap, _∙_}
+use mathlib.Core.Path.{_≡_}
 use mathlib.Core.Bool.{not}
 use native.Mathlib.Nat.{pow-suc}
 use native.Mathlib.Numerals.{one-add}

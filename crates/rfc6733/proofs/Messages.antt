@@ -1,14 +1,13 @@
 -- A message that the writer's definition makes has a header that is not refused and states its length, and its AVPs are the
 -- body that it was made of: each field of the header is read back where it was packed.
 -- Assumes nothing.
-use Prim.Native.Nat.{ℕ, _+_, _-_, _%_, _^_, _≤_}
-use mathlib.Core.Path.{_≡_, refl, sym, ap, ap₂, _∙_}
-use mathlib.Core.Bool.{true, not}
-use mathlib.Core.List.{List, [], _∷_, _++_}
+use Prim.Native.Nat.{ℕ, _+_, _-_, _≤_}
+use mathlib.Core.Path.{_≡_, ap, ap₂, _∙_}
+use mathlib.Core.Bool.{true}
+use mathlib.Core.List.{List, [], _∷_}
 use native.Mathlib.Omega.{arith}
 use lib.ListN.{length, take, drop, length-append}
 use lib.Seq.{drop-at, take-all}
-use lib.Dec.{ltb, eqb}
 use borrow.Author.Tests.{le-ltb, eq-eqb}
 use Rattle.octets.specs.Octets.{be, Field, field, pack}
 use Rattle.octets.proofs.Numbers.{length-pack, read-field}

@@ -1,7 +1,7 @@
 -- Laws of a run's records, over any dictionary: how many there are does not depend on it, nor on place and depth, and is at most
 -- the headers tried; places and depths shift. Each is an induction over the tree.
 -- Assumes nothing.
-use Prim.Native.Nat.{ℕ, suc, _+_, _≤_}
+use Prim.Native.Nat.{ℕ, _+_, _≤_}
 use mathlib.Core.Path.{_≡_, refl, sym, ap, ap₂, _∙_}
 use mathlib.Core.Bool.{Bool, true, false, cond}
 use mathlib.Core.List.{List, [], _∷_, _++_, map, map-append}

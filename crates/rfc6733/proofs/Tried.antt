@@ -3,17 +3,17 @@
 -- whole words and two. A group pays for those two by its own header, of eight bytes at least, of which its own count takes six.
 -- Assumes nothing.
 use Prim.Native.Nat.{ℕ, _+_, _-_, _*_, _/_, _%_, _≤_, _<_}
-use mathlib.Core.Path.{_≡_, refl, sym, ap, _∙_}
+use mathlib.Core.Path.{_≡_, refl, ap, _∙_}
 use mathlib.Core.Bool.{Bool, true, false}
-use mathlib.Core.List.{List, []}
+use mathlib.Core.List.{List}
 use native.Mathlib.Omega.{arith}
 use lib.ListN.{length}
-use Rattle.octets.specs.Run.{Format, item, after, Tree, done, broken, plain, group, node, tree, tiles, tried}
+use Rattle.octets.specs.Run.{item, after, Tree, node, tree, tiles, tried}
 use Rattle.octets.proofs.Runs.{false-true, Parts, tree-none, tree-step, by-run}
-use Rattle.rfc6733.specs.Avp.{flags, avpLength, headSize, dataSize, padding, avpSize, payload, complete}
+use Rattle.rfc6733.specs.Avp.{flags, headSize, dataSize, padding, avpSize, payload, complete}
 use Rattle.rfc6733.specs.Dictionary.{Dictionary}
 use Rattle.rfc6733.specs.Record.{avps}
-use Rattle.rfc6733.proofs.Complete.{Head, head, Whole, Sizes, sizes, complete-whole}
+use Rattle.rfc6733.proofs.Complete.{head, Whole, sizes, complete-whole}
 use Rattle.rfc6733.proofs.Items.{sound, item-same, payload-length}
 
 -- so many bytes in whole words. It stays shut below these laws, so that `omega` sees no quotient

@@ -1,7 +1,7 @@
 -- The answers of document 01, "Numbers returned": an acceptance with what it returns, or a refusal with its number and its amount.
 -- Assumes nothing: these are definitions.
 use Prim.Native.Nat.{ℕ}
-use mathlib.Core.Bool.{Bool, true, false, cond, not, _&&_}
+use mathlib.Core.Bool.{Bool, true, cond, not, _&&_}
 use mathlib.Core.List.{List, [], _∷_}
 
 -- the numbers

@@ -3,7 +3,7 @@
 use Prim.Native.Nat.{ℕ, zero, suc}
 use mathlib.Core.List.{List, [], _++_}
 use Rattle.rfc6733.specs.Marked.{failing}
-use Rattle.rfc6733.specs.Writer.{Fields, messageBytes}
+use Rattle.rfc6733.specs.Writer.{messageBytes}
 
 abbrev pub failingGroups : ℕ → List ℕ
 failingGroups zero = []

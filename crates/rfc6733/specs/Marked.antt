@@ -1,7 +1,7 @@
 -- The marked messages of document 01, P1 to P13: each with its limits and what the dump shows.
 -- Assumes nothing: these are definitions.
 use Prim.Native.Nat.{ℕ}
-use mathlib.Core.List.{List, [], _∷_, _++_, map}
+use mathlib.Core.List.{List, [], _∷_, _++_}
 use lib.ListN.{take, replicate}
 use Rattle.rfc6733.specs.Answer.{incomplete, notVersion, badLength, notTiled, tooDeep, noRecords}
 use Rattle.rfc6733.specs.Dictionary.{Dictionary}

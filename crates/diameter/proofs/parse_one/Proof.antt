@@ -1,8 +1,8 @@
 -- `parse_one` meets its contract: the bytes that it lends are the AVP's own, a run of one that tiles, so what is counted of it decides
 -- among the refusals; and past them the store is filled with its records.
 -- Assumes nothing.
-use Prim.Native.Nat.{ℕ, _≤_, _<_, _^_}
-use mathlib.Core.Path.{_≡_, refl, sym, _∙_}
+use Prim.Native.Nat.{_≤_, _<_, _^_}
+use mathlib.Core.Path.{refl, sym, _∙_}
 use native.Mathlib.Omega.{arith}
 use lib.ListN.{length, take, length-take}
 use denote.Ref.{now}
