@@ -45,6 +45,9 @@ use Rattle.value.proofs.unix_seconds.Reads as unix-seconds
 use Rattle.count.proofs.count_run.Reads as count-run
 use Rattle.diameter.proofs.parse.Reads as parse
 use Rattle.diameter.proofs.parse_avp.Reads as parse-avp
+use Rattle.rules.proofs.has_vendor.Reads as record-has-vendor
+use Rattle.rules.proofs.header_size.Reads as record-header-size
+use Rattle.rules.proofs.keepers.Reads as keepers
 use Rattle.writer.proofs.write.Reads as write
 use Rattle.tandrekily.proofs.tandrekily_message.Reads as tandrekily-message
 use Rattle.tandrekily.proofs.tandrekily_header.Reads as tandrekily-header
@@ -221,6 +224,17 @@ parse-avp-one κs a r r′ s s′ p q =
     let at-exit = p .1 in
     let at-exit′ = q .1 in
     (e, cc)
+
+-- ---- rules
+
+record-has-vendor-one : Single record-has-vendor.Post
+record-has-vendor-one κs a r r′ s p q = p ∙ sym q
+
+record-header-size-one : Single record-header-size.Post
+record-header-size-one κs a r r′ s p q = p ∙ sym q
+
+keepers-one : Single keepers.Post
+keepers-one κs a r r′ s p q = p ∙ sym q
 
 -- ---- writer: the output, the fourth parameter, is told too
 

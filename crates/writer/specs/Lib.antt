@@ -1,4 +1,3 @@
 pub mod Answers
 pub mod Emitting
-pub mod Rules
 pub mod Sizing

@@ -1,8 +1,8 @@
 // Writes the AVPs of a table that is known to keep the rules and to fit: the run and the AVP call each other in turn.
-use super::rules::has_vendor;
-use super::rules::header_size;
 use attribute::kinds::GROUPED;
 use record::Record;
+use rules::has_vendor;
+use rules::header_size;
 ghost use mathlib.Core.Path.{_≡_};
 ghost use Prim.Native.Nat.{_+_, _≤_, _<_};
 ghost use lib.ListN.{length};

@@ -1,7 +1,7 @@
 // How long a message gets, before a byte of it is written: the size of a run and of an AVP call each other in turn.
-use super::rules::header_size;
 use attribute::kinds::GROUPED;
 use record::Record;
+use rules::header_size;
 ghost use mathlib.Core.Path.{_≡_};
 ghost use Prim.Native.Nat.{_≤_};
 ghost use lib.ListN.{length};

@@ -24,7 +24,7 @@ use Rattle.table.proofs.Turns.{run-end, run-above}
 use Rattle.record.specs.Stored.{recordAs}
 use Rattle.record.proofs.Record.get.Reads as get-reads
 use Rattle.writer.specs.Emitting.{Done}
-use Rattle.writer.proofs.Records.{same, is-group, no-group}
+use Rattle.rules.proofs.Records.{same, is-group, no-group}
 use Rattle.writer.proofs.Runs.{Going, none-put, Left, left, one-ready, one-put, Further, further, all-put, Group, group, group-done, Single, single, single-done}
 use Rattle.writer.proofs.emit.emit_avp.Reads as emit-avp
 use Rattle.writer.proofs.emit.emit_avp.Kinds as emit-avp-kinds
@@ -33,7 +33,7 @@ use Rattle.writer.proofs.emit.emit_run.Reads as emit-run
 use Rattle.writer.proofs.emit.emit_run.Kinds as emit-run-kinds
 use Rattle.writer.proofs.emit.+emit_avp+emit_run.Lts-emit_run as emit-run-lts
 use Rattle.writer.proofs.emit.emit_leaf.Reads as emit-leaf-reads
-use Rattle.writer.proofs.rules.header_size.Reads as header-size-reads
+use Rattle.rules.proofs.header_size.Reads as header-size-reads
 use Rattle.writer.proofs.emit.put_head.Reads as put-head-reads
 use Rattle.writer.proofs.emit.+emit_avp+emit_run.{statement}
 use Rattle.writer.proofs.emit.+emit_avp+emit_run.Tie.{close}

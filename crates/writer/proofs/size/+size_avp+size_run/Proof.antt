@@ -21,7 +21,7 @@ use Rattle.table.proofs.Turns.{run-end, run-above}
 use Rattle.record.specs.Stored.{recordAs}
 use Rattle.record.proofs.Record.get.Reads as get-reads
 use Rattle.writer.specs.Sizing.{sizedOf}
-use Rattle.writer.proofs.Records.{same, is-group, no-group}
+use Rattle.rules.proofs.Records.{same, is-group, no-group}
 use Rattle.writer.proofs.Sizes.{Known, is-over, is-size, was-over, was-size, Passed, none-passed, one-orderly, then-over, one-passed, Further, further, then-ends, Inside, inside, Alone, alone}
 use Rattle.writer.proofs.size.size_avp.Reads as size-avp
 use Rattle.writer.proofs.size.size_avp.Kinds as size-avp-kinds
@@ -29,7 +29,7 @@ use Rattle.writer.proofs.size.+size_avp+size_run.Lts-size_avp as size-a
 use Rattle.writer.proofs.size.size_run.Reads as size-run
 use Rattle.writer.proofs.size.size_run.Kinds as size-run-kinds
 use Rattle.writer.proofs.size.+size_avp+size_run.Lts-size_run as size-run-lts
-use Rattle.writer.proofs.rules.header_size.Reads as header-size-reads
+use Rattle.rules.proofs.header_size.Reads as header-size-reads
 use Rattle.writer.proofs.size.+size_avp+size_run.{statement}
 use Rattle.writer.proofs.size.+size_avp+size_run.Tie.{close}
 

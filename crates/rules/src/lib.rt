@@ -1,0 +1,143 @@
+// The rules of a table (document 01, "Numbers returned"): which record is the first to break one.
+// This crate knows how many bytes there are to point into, none of them, and writes nothing.
+use attribute::kinds::GROUPED;
+use attribute::kinds::TIME;
+use avp::AVP;
+use record::Record;
+ghost use mathlib.Core.Path.{_≡_};
+ghost use mathlib.Core.Bool.{_&&_, _||_};
+ghost use Prim.Native.Nat.{_-_, _%_, _^_, _≤_};
+ghost use lib.Dec.{eqb};
+ghost use Rattle.rfc6733.specs.Flags.{bit};
+ghost use Rattle.rfc6733.specs.Avp.{vendorBit};
+ghost use Rattle.rfc6733.specs.Writer.{tableOf, headOf, keeps, keepers, allowedAfter};
+ghost use Rattle.record.specs.Stored.{recordAs};
+ghost use Rattle.rules.specs.Rules.{keepsLeaf};
+
+// A table nests at most so deep.
+const MOST_DEPTH: u8 = 64;
+
+/// Has the record's AVP a Vendor-ID?
+pub fn has_vendor(r: Record) -> bool
+    ensures { λ b. ⌜ b ≡ bit vendorBit (r .flags) ⌝ }
+{
+    r.flags & AVP::VENDOR_SPECIFIC_FLAG != 0
+}
+
+/// The size of the header of the record's AVP.
+pub fn header_size(r: Record) -> usize
+    ensures { λ n. ⌜ n ≡ headOf (recordAs r) ⌝ }
+{
+    if has_vendor(r) {
+        return AVP::VENDOR_SIZE;
+    }
+    AVP::PRE_LENGTH_SIZE
+}
+
+fn keeps_vendor(r: Record) -> bool
+    ensures { λ b. ⌜ b ≡ (bit vendorBit (r .flags) || eqb (r .vendor) 0) ⌝ }
+{
+    if has_vendor(r) {
+        return true;
+    }
+    r.vendor == 0
+}
+
+fn keeps_group(r: Record) -> bool
+    ensures { λ b. ⌜ b ≡ (eqb (r .padding) 0 && eqb (r .pads) 0) ⌝ }
+{
+    if r.padding != 0 {
+        return false;
+    }
+    r.pads == 0
+}
+
+// The padding bytes past the count, as a number.
+fn unused_padding(r: Record) -> u32
+    ensures { λ n. ⌜ n ≡ r .pads % 256 ^ (3 - r .padding) ⌝ }
+{
+    if r.padding == 0 {
+        return r.pads % 0x100_0000;
+    }
+    if r.padding == 1 {
+        return r.pads % 0x1_0000;
+    }
+    if r.padding == 2 {
+        return r.pads % 0x100;
+    }
+    0
+}
+
+// The rules of a record that is no group, where so many bytes are there to point into.
+fn keeps_leaf(r: Record, available: usize) -> bool
+    ensures { λ b. ⌜ b ≡ keepsLeaf available (recordAs r) ⌝ }
+{
+    let length = r.length as usize;
+    let header_size = header_size(r);
+    if length < header_size {
+        return false;
+    }
+    let size = length - header_size;
+    let place = r.place as usize;
+    let end = place + size;
+    if available < end {
+        return false;
+    }
+    if r.padding as usize != AVP::padding(size) {
+        return false;
+    }
+    unused_padding(r) == 0
+}
+
+// The rules of a record by itself, at whatever depth it has.
+fn keeps(r: Record, available: usize) -> bool
+    ensures { λ b. ⌜ b ≡ keeps (r .depth) available (recordAs r) ⌝ }
+{
+    if r.depth < 1 {
+        return false;
+    }
+    if MOST_DEPTH < r.depth {
+        return false;
+    }
+    if TIME < r.kind {
+        return false;
+    }
+    if !keeps_vendor(r) {
+        return false;
+    }
+    if r.kind == GROUPED {
+        return keeps_group(r);
+    }
+    keeps_leaf(r, available)
+}
+
+// The depth that is allowed after it: one more only after a group.
+fn allowed_after(r: Record) -> u8
+    requires { ⌜ r .depth ≤ 64 ⌝ }
+    ensures { λ n. ⌜ n ≡ allowedAfter (recordAs r) ⌝ }
+{
+    if r.kind == GROUPED {
+        return r.depth + 1;
+    }
+    r.depth
+}
+
+/// How many records keep the rules before the first that breaks one.
+pub fn keepers(table: &[u8], available: usize) -> usize
+    ensures { λ n. ⌜ n ≡ keepers 1 available (tableOf (now (table .entry))) ⌝ }
+{
+    let mut kept: usize = 0;
+    let mut allowed: u8 = 1;
+    while kept < table.len() / Record::SIZE {
+        let r = Record::get(&table[kept * Record::SIZE..]);
+        if allowed < r.depth {
+            return kept;
+        }
+        if !keeps(r, available) {
+            return kept;
+        }
+        allowed = allowed_after(r);
+        kept += 1;
+    }
+    kept
+}
