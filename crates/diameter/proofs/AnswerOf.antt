@@ -7,13 +7,14 @@ use lib.Dec.{eqb}
 use Rattle.rfc6733.specs.Answer as rfc
 use Rattle.rfc6733.specs.Answer.{Answer, accepted, refused}
 use Rattle.rfc6733.specs.Decoder as definition
+use Rattle.avps.specs.Answers.{countsAs}
 use Rattle.header.specs.Parsed.{headerAs}
 use Rattle.header.proofs.AnswerOf.{header-back}
 use Rattle.diameter.specs.declared.Decoded.{Decoded}
 use Rattle.diameter.specs.declared.Decoded.the-variants as message
 use Rattle.diameter.specs.declared.DecodedAvp.{DecodedAvp}
 use Rattle.diameter.specs.declared.DecodedAvp.the-variants as alone
-use Rattle.diameter.specs.Answers.{messageAs, answerOf, oneAs, avpAnswerOf}
+use Rattle.diameter.specs.Answers.{messageAs, answerOf, avpAnswerOf}
 
 -- ---- a message
 
@@ -62,8 +63,8 @@ alone-back (refused number amount) =
     alone.BadDepth)))
 
 alone-is-back : (r : DecodedAvp) → alone-back (avpAnswerOf r) ≡ r
-unfolding avpAnswerOf oneAs
-alone-is-back (alone.Accepted o) = refl
+unfolding avpAnswerOf countsAs
+alone-is-back (alone.Accepted c) = refl
 alone-is-back (alone.Incomplete n) = refl
 alone-is-back alone.BadLength = refl
 alone-is-back alone.TooDeep = refl

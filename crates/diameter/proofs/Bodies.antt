@@ -1,33 +1,34 @@
--- What is known of a message once its header was accepted: its body is the run that the definition reads, and its counts lead to
--- the definition's answer.
+-- What is known of a message once its header was accepted: its body is the run that the definition reads, so the message is refused as
+-- the body is, and else accepted with the body's counts.
 -- Assumes nothing.
-use Prim.Native.Nat.{ℕ, _-_, _≤_, _<_}
+use Prim.Native.Nat.{ℕ, _-_}
 use mathlib.Core.Path.{_≡_, sym, ap, _∙_}
-use mathlib.Core.Bool.{true, false}
+use mathlib.Core.Bool.{true}
 use mathlib.Core.List.{List}
-use native.Mathlib.Omega.{arith}
-use lib.ListN.{length, take, drop}
-use Rattle.octets.specs.Run.{Tree, tree, tiles, deepest}
-use Rattle.rfc6733.specs.Answer.{passes, accepted, refused, noRecords}
+use lib.ListN.{take, drop}
+use Rattle.rfc6733.specs.Answer.{passes, accepted, refused, answer}
 use Rattle.rfc6733.specs.Flags.{join}
 use Rattle.rfc6733.specs.Header as rfc
 use Rattle.rfc6733.specs.Header.{messageLength, headerOf, headerErrors, headerRefusals}
 use Rattle.rfc6733.specs.Dictionary.{Dictionary}
-use Rattle.rfc6733.specs.Record.{avps, errors}
 use Rattle.rfc6733.specs.Decoder as definition
 use Rattle.rfc6733.specs.Decoder.{headerAlone, messageBody, messageRun, messageRecords, messageOf, decoded, stored}
-use Rattle.rfc6733.proofs.Answers.{passed}
+use Rattle.rfc6733.proofs.Answers as answers
+use Rattle.rfc6733.proofs.Answers.{passed, answer-alike}
 use Rattle.rfc6733.proofs.Accepted as accepted-message
 use Rattle.rfc6733.proofs.Accepted.{headed}
 use Rattle.header.specs.declared.Header.{Header}
 use Rattle.header.specs.Parsed.{headerAs}
 use Rattle.header.specs.Parsed as header
-use Rattle.rfc6733.proofs.Decoded.{message-not-tiled, message-too-deep, message-no-records, message-accepted}
-use Rattle.rfc6733.proofs.RunRecords.{records-count}
-use Rattle.count.proofs.Counts.{Known}
+use Rattle.rfc6733.proofs.Decoded.{rest, message-past}
+use Rattle.avps.specs.declared.Counts.{Counts}
+use Rattle.avps.specs.declared.Filled.{Filled}
+use Rattle.avps.specs.declared.Filled.the-variants as run
+use Rattle.avps.specs.Answers as avps
+use Rattle.avps.specs.Answers.{countsAs, runRecords, runCounts, runAnswer}
+use Rattle.avps.proofs.Told.{Told}
 use Rattle.diameter.specs.declared.Message.{Message}
-use Rattle.diameter.specs.declared.Decoded.the-variants.{Accepted, NotTiled, TooDeep, NoRecords}
-use Rattle.diameter.specs.Fill.{Filled}
+use Rattle.diameter.specs.declared.Decoded.the-variants.{Accepted}
 use Rattle.diameter.specs.Answers.{Limited, Headed, messageAs, answerOf}
 
 -- the header is the definition's
@@ -55,51 +56,49 @@ body h flags s e =
       body-is = ap (λ (n : ℕ). take (n - 20) (drop 20 s)) l;
     }
 
--- ---- the store afterwards
-
-pub stores : (D : Dictionary) (h : Header) (flags : ℕ) (s : List ℕ) → Headed h flags s → (m : Message) (y : ℕ) (before after : List ℕ)
-    → Filled D (tree (avps D) (take (h .length - 20) (drop 20 s))) 20 y before after
-    → after ≡ stored (answerOf (Accepted m)) (messageRecords D s) before
-unfolding answerOf stored messageRecords messageRun
-stores D h flags s e m y before after f = rw (body h flags s e .body-is) at (f .store-is)
-
--- ---- the answer, from the body's counts
+-- ---- the answer and the store, from those of the body
 
 module _ (D : Dictionary) (limit room : ℕ) (h : Header) (flags : ℕ) (s : List ℕ) (ok : Limited limit) (e : Headed h flags s) where
-  abbrev run : Tree
-  run = tree (avps D) (take (h .length - 20) (drop 20 s))
+  abbrev body-of : List ℕ
+  body-of = take (h .length - 20) (drop 20 s)
 
-  pub run-is : run ≡ messageRun D s
-  unfolding messageRun
-  run-is = ap (tree (avps D)) (body h flags s e .body-is)
+  -- the body is refused, or not, where the message is past its header
+  body-answer : answer (rest D limit room s) (runCounts D 20 body-of) ≡ runAnswer D limit room 20 body-of
+  unfolding runAnswer runRecords messageRun messageRecords
+  body-answer = rw (body h flags s e .body-is)
 
-  pub not-tiled : tiles run ≡ false → answerOf NotTiled ≡ decoded D limit room s
-  unfolding answerOf
-  not-tiled t = message-not-tiled D limit room s (ok .low) (ok .high) (body h flags s e .passes-all) (rw run-is at t)
+  past : answer (rest D limit room s) (messageOf D s) ≡ decoded D limit room s
+  past = message-past D limit room s (ok .low) (ok .high) (body h flags s e .passes-all)
 
-  pub too-deep : tiles run ≡ true → limit < deepest run → answerOf TooDeep ≡ decoded D limit room s
-  unfolding answerOf
-  too-deep t d = message-too-deep D limit room s (ok .low) (ok .high) (body h flags s e .passes-all) (rw run-is at t) (rw run-is at d)
+  pub refuses : {before after : List ℕ} {x : Filled} (n a : ℕ) → avps.answerOf x ≡ refused n a → Told D limit room 20 body-of before after x
+      → (refused n a ≡ decoded D limit room s) × (after ≡ before)
+  unfolding stored
+  refuses n a is t = (
+    sym (answer-alike (rest D limit room s) (runCounts D 20 body-of) (messageOf D s) n a (body-answer ∙ sym (t .answer-is) ∙ is)) ∙ past,
+    rw is at (t .store-is),
+  )
 
-  module _ (records tried : ℕ) (k : Known limit run true records tried) where
-    counted : Known limit (messageRun D s) true records tried
-    counted = rw run-is at k
-
-    pub no-records : room < records → answerOf (NoRecords records) ≡ decoded D limit room s
-    unfolding answerOf
-    no-records less =
-        let c = counted in
-        ap (refused noRecords) (c .records-is)
-        ∙ message-no-records D limit room s (ok .low) (ok .high) (body h flags s e .passes-all) (sym (c .tiles-is)) (c .shallow) (omega arith)
-
+  module _ {before after : List ℕ} {c : Counts} (t : Told D limit room 20 body-of before after (run.Accepted c)) where
     abbrev message : ℕ → Message
-    message errors-joined = record { header = h; flags = errors-joined; records = records; tried = tried; length = h .length }
+    message joined = record { header = h; flags = joined; records = c .records; tried = c .tried; length = h .length }
 
-    pub accepts : (x : ℕ) → records ≤ room → x ≡ join flags (errors D run) → answerOf (Accepted (message x)) ≡ decoded D limit room s
-    unfolding answerOf messageAs messageOf messageRecords
-    accepts x fits joined =
-        let c = counted in
+    pub accepts : {x : ℕ} → x ≡ join flags (c .flags)
+        → (answerOf (Accepted (message x)) ≡ decoded D limit room s) × (after ≡ stored (answerOf (Accepted (message x))) (messageRecords D s) before)
+    unfolding answerOf avps.answerOf stored messageAs countsAs messageOf runCounts runRecords messageRun messageRecords
+    accepts joined =
         let b = body h flags s e in
-        let n = c .records-is ∙ sym (records-count D 20 1 (messageRun D s)) in
-        ap accepted (rw (b .header-is, joined, b .flags-are, run-is, n, c .tried-is, b .length-is))
-        ∙ message-accepted D limit room s (ok .low) (ok .high) (b .passes-all) (sym (c .tiles-is)) (c .shallow) (omega arith)
+        let p = passed (rest D limit room s) (runCounts D 20 body-of) (countsAs c) (body-answer ∙ sym (t .answer-is)) in
+        let counts = rw (b .body-is) at (p .1) in (
+          ap accepted
+              (rw (
+                b .header-is,
+                joined,
+                b .flags-are,
+                ap (λ (x : definition.Counts). x .flags) counts,
+                ap (λ (x : definition.Counts). x .records) counts,
+                ap (λ (x : definition.Counts). x .tried) counts,
+                b .length-is,
+              ))
+              ∙ sym (answers.accepts (rest D limit room s) (messageOf D s) (p .0)) ∙ past,
+          rw (b .body-is) at (t .store-is),
+        )

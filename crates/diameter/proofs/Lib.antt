@@ -1,9 +1,3 @@
-pub mod OwnBytes
-pub mod Filling
-pub mod OwnRecord
-pub mod OtherKinds
-pub mod Entering
-pub mod Filled
 pub mod Bodies
 pub mod Ones
 pub mod AnswerOf

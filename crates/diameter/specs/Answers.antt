@@ -8,6 +8,7 @@ use Rattle.rfc6733.specs.Avp.{avpSize, complete}
 use Rattle.rfc6733.specs.Answer as rfc
 use Rattle.rfc6733.specs.Answer.{Answer, accepted, refused}
 use Rattle.rfc6733.specs.Decoder as definition
+use Rattle.avps.specs.Answers.{countsAs}
 use Rattle.header.specs.declared.Header.{Header}
 use Rattle.header.specs.declared.Parsed.the-variants.{Accepted}
 use Rattle.header.specs.Parsed as header
@@ -15,7 +16,6 @@ use Rattle.header.specs.Parsed.{headerAs}
 use Rattle.diameter.specs.declared.Message.{Message}
 use Rattle.diameter.specs.declared.Decoded.{Decoded}
 use Rattle.diameter.specs.declared.Decoded.the-variants as message
-use Rattle.diameter.specs.declared.One.{One}
 use Rattle.diameter.specs.declared.DecodedAvp.{DecodedAvp}
 use Rattle.diameter.specs.declared.DecodedAvp.the-variants as alone
 
@@ -50,11 +50,8 @@ answerOf message.TooDeep = refused rfc.tooDeep 0
 answerOf (message.NoRecords n) = refused rfc.noRecords n
 answerOf message.BadDepth = refused rfc.badDepth 0
 
-unfoldable pub oneAs : One → definition.Counts
-oneAs o = record { flags = o .flags; records = o .records; tried = o .tried; length = o .length }
-
 unfoldable pub avpAnswerOf : DecodedAvp → Answer definition.Counts
-avpAnswerOf (alone.Accepted o) = accepted (oneAs o)
+avpAnswerOf (alone.Accepted c) = accepted (countsAs c)
 avpAnswerOf (alone.Incomplete n) = refused rfc.incomplete n
 avpAnswerOf alone.BadLength = refused rfc.badLength 0
 avpAnswerOf alone.TooDeep = refused rfc.tooDeep 0

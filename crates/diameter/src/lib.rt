@@ -1,22 +1,16 @@
 // Decoding: a message or one AVP, from a lent slice to a header, records in a lent store, error flags, counts and a length.
-// Nothing is written until everything is known to fit, so a refusal has changed no byte.
-mod fill;
-
+// The header and the limit are tested here; `avps` reads the AVPs, and writes nothing until everything is known to fit.
 use attribute::Reading;
 use avp::AVP;
 use avp::Front;
-use count::Counted;
+use avps::Counts;
+use avps::Filled;
 use header::Header;
 use header::Parsed;
-use record::Record;
 ghost use mathlib.Core.Path.{_≡_};
-ghost use mathlib.Core.Bool.{true};
-ghost use lib.ListN.{length, replicate};
-ghost use Rattle.octets.specs.Run.{tree, tiles};
-ghost use Rattle.rfc6733.specs.Record.{avps};
+ghost use lib.ListN.{length};
 ghost use Rattle.rfc6733.specs.Decoder.{capacity, decoded, messageRecords, avpAlone, aloneRecords, stored};
 ghost use Rattle.attribute.specs.Attributes.{dictionary};
-ghost use Rattle.diameter.specs.Fill.{Room, Filled};
 ghost use Rattle.diameter.specs.Answers.{Limited, Headed, Complete, answerOf, avpAnswerOf};
 
 /// An accepted message: its header, error flags, number of records, headers tried and consumed length.
@@ -40,17 +34,9 @@ pub enum Decoded {
     BadDepth,
 }
 
-/// One accepted AVP: its error flags, number of records, headers tried and padded size.
-pub struct One {
-    pub flags: u8,
-    pub records: usize,
-    pub tried: usize,
-    pub length: usize,
-}
-
-/// What decoding one AVP answers.
+/// What decoding one AVP answers. Accepted, its length is its padded size.
 pub enum DecodedAvp {
-    Accepted(One),
+    Accepted(Counts),
     Incomplete(usize),
     BadLength,
     TooDeep,
@@ -60,30 +46,6 @@ pub enum DecodedAvp {
 
 /// The largest depth limit.
 pub const MOST_DEPTH: usize = 64;
-
-// Sets every byte to zero.
-fn clear(store: &mut [u8])
-    ensures { λ _. ⌜ now (store .exit) ≡ replicate (length (now (store .entry))) 0 ⌝ }
-{
-    let mut i: usize = 0;
-    while i < store.len() {
-        store[i] = 0;
-        i += 1;
-    }
-}
-
-// Fills the store with the records of the run `s`, which stands at `place`, and with zero after them. Answers their error flags.
-fn fill_store(reading: Reading, s: &[u8], place: usize, store: &mut [u8]) -> u8
-    requires { ⌜ tiles (tree (avps (dictionary reading)) (now s)) ≡ true ⌝ }
-    requires { ⌜ Room (tree (avps (dictionary reading)) (now s)) place (length (now s)) 1 (length (now store)) ⌝ }
-    ensures { λ r. ⌜ Filled (dictionary reading) (tree (avps (dictionary reading)) (now (s .entry))) place r (now (store .entry)) (now (store .exit)) ⌝ }
-{
-    let kinds = attribute::kind_table(reading);
-    let ran = fill::read_run(reading, &kinds, s, place, 1, store);
-    let n = ran.records;
-    clear(&mut store[n * Record::SIZE..]);
-    ran.errors
-}
 
 // A message whose header was accepted.
 fn parse_body(
@@ -101,32 +63,18 @@ fn parse_body(
 {
     let length = header.length as usize;
     let body = &input[Header::SIZE..length];
-    let Counted::Counts {
-        tiles,
-        records,
-        tried,
-    } = count::count_run(reading, body, limit)
-    else {
-        // NotTiled comes first
-        if !avp::tiles(body) {
-            return Decoded::NotTiled;
-        }
-        return Decoded::TooDeep;
-    };
-    if !tiles {
-        return Decoded::NotTiled;
+    match avps::parse_avps(reading, limit, body, Header::SIZE as u32, store) {
+        Filled::Accepted(run) => Decoded::Accepted(Message {
+            header,
+            flags: flags::join(flags, run.flags),
+            records: run.records,
+            tried: run.tried,
+            length,
+        }),
+        Filled::NotTiled => Decoded::NotTiled,
+        Filled::TooDeep => Decoded::TooDeep,
+        Filled::NoRecords(n) => Decoded::NoRecords(n),
     }
-    if store.len() / Record::SIZE < records {
-        return Decoded::NoRecords(records);
-    }
-    let errors = fill_store(reading, body, Header::SIZE, store);
-    Decoded::Accepted(Message {
-        header,
-        flags: flags::join(flags, errors),
-        records,
-        tried,
-        length,
-    })
 }
 
 /// Decodes the message at the front of `input` into records in `store`.
@@ -168,25 +116,13 @@ fn parse_one(
     ensures answer { λ r. ⌜ avpAnswerOf r ≡ avpAlone (dictionary reading) limit (capacity (length (now (store .entry)))) (now (input .entry)) ⌝ }
     ensures store { λ r. ⌜ now (store .exit) ≡ stored (avpAnswerOf r) (aloneRecords (dictionary reading) (now (input .entry))) (now (store .entry)) ⌝ }
 {
-    let own = &input[..size];
-    let Counted::Counts {
-        tiles: _,
-        records,
-        tried,
-    } = count::count_run(reading, own, limit)
-    else {
-        return DecodedAvp::TooDeep;
-    };
-    if store.len() / Record::SIZE < records {
-        return DecodedAvp::NoRecords(records);
+    match avps::parse_avps(reading, limit, &input[..size], 0, store) {
+        Filled::Accepted(run) => DecodedAvp::Accepted(run),
+        // never answered: one AVP that is complete tiles
+        Filled::NotTiled => DecodedAvp::BadLength,
+        Filled::TooDeep => DecodedAvp::TooDeep,
+        Filled::NoRecords(n) => DecodedAvp::NoRecords(n),
     }
-    let flags = fill_store(reading, own, 0, store);
-    DecodedAvp::Accepted(One {
-        flags,
-        records,
-        tried,
-        length: size,
-    })
 }
 
 /// Decodes the one AVP at the front of `input`, at depth 1, into records in `store`.

@@ -43,6 +43,7 @@ use Rattle.value.proofs.Value.number.Reads as value-number
 use Rattle.value.proofs.signed_enumerated.Reads as signed-enumerated
 use Rattle.value.proofs.unix_seconds.Reads as unix-seconds
 use Rattle.count.proofs.count_run.Reads as count-run
+use Rattle.avps.proofs.parse_avps.Reads as parse-avps
 use Rattle.diameter.proofs.parse.Reads as parse
 use Rattle.diameter.proofs.parse_avp.Reads as parse-avp
 use Rattle.rules.proofs.has_vendor.Reads as record-has-vendor
@@ -59,6 +60,7 @@ use Rattle.header.proofs.AnswerOf as header-answers
 use Rattle.avp.proofs.AnswerOf as avp-answers
 use Rattle.record.proofs.RecordAs.{record-as-injective}
 use Rattle.value.proofs.ReadAs.{one-value}
+use Rattle.avps.proofs.AnswerOf as avps-answers
 use Rattle.diameter.proofs.AnswerOf as diameter-answers
 use Rattle.writer.proofs.AnswerOf as writer-answers
 
@@ -206,6 +208,16 @@ unix-seconds-one κs a r r′ s p q = p ∙ sym q
 
 count-run-one : Single count-run.Post
 count-run-one κs a r r′ s p q = p ∙ sym q
+
+-- ---- avps: the store, the fifth parameter, is told too
+
+parse-avps-one : (κs : _) (a : _) (r r′ : _) (s s′ : _) → parse-avps.Post κs a r s → parse-avps.Post κs a r′ s′
+    → (r ≡ r′) × (now (s .1 .1 .1 .1 .0) ≡ now (s′ .1 .1 .1 .1 .0))
+parse-avps-one κs a r r′ s s′ p q =
+    let e = avps-answers.answer-of-injective r r′ (p .0 ∙ sym (q .0)) in
+    let at-exit = p .1 in
+    let at-exit′ = q .1 in
+    (e, cc)
 
 -- ---- diameter: the store, the fourth parameter, is told too
 

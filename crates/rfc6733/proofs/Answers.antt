@@ -1,9 +1,9 @@
 -- An acceptance is given exactly where no refusal is, and returns what it was to return.
 -- Assumes nothing.
 use Prim.Native.Nat.{ℕ, _≤_}
-use mathlib.Core.Path.{_≡_, refl, sym, ap₂}
+use mathlib.Core.Path.{_≡_, refl, sym, ap, ap₂, _∙_}
 use mathlib.Core.Bool.{Bool, true, false, cond, not, _&&_}
-use mathlib.Core.List.{List, [], _∷_, _++_}
+use mathlib.Core.List.{List, [], _∷_, _++_, append-nil}
 use native.Mathlib.Omega.{arith}
 use lib.Dec.{ltb}
 use borrow.Author.Tests.{ltb-false, le-ltb, not-true, not-false}
@@ -85,3 +85,7 @@ answer-first (r ∷ rs) ts x y n a e = by (r .given) (answer-first rs ts x y n a
         → cond b (refused (r .number) (r .amount)) (answer (rs ++ ts) y) ≡ refused n a
     by true rest f = ap₂ refused (same-number f) (same-amount f)
     by false rest f = rest f
+
+-- the same refusals give the same refusal, whatever an acceptance were to return
+pub answer-alike : {A B : Type 0} (rs : List Refusal) (x : A) (y : B) (n a : ℕ) → answer rs x ≡ refused n a → answer rs y ≡ refused n a
+answer-alike rs x y n a e = ap (λ (ts : List Refusal). answer ts y) (sym (append-nil rs)) ∙ answer-first rs [] x y n a e

@@ -1,5 +1,5 @@
 -- `decoded` and `avpAlone` by cases: which facts lead to which answer, in the order of the refusals. Both start with the limit and
--- what stands at the front, and end with the run's own refusals.
+-- what stands at the front; past them the answer is the run's own.
 -- Assumes nothing.
 use Prim.Native.Nat.{ℕ, _≤_, _<_}
 use mathlib.Core.Path.{_≡_, sym, _∙_}
@@ -16,7 +16,6 @@ use Rattle.rfc6733.specs.Dictionary.{Dictionary}
 use Rattle.rfc6733.specs.Record.{Record, recordCount}
 use Rattle.rfc6733.specs.Decoder.{limitRefusals, runRefusals, headerAlone, messageRun, messageRecords, messageRefusals, messageOf, decoded, aloneRun, aloneRecords, aloneRefusals, aloneOf, avpAlone}
 use Rattle.rfc6733.proofs.Answers.{answer-past, answer-first}
-use Rattle.rfc6733.proofs.RunRecords.{records-count}
 
 -- ---- the limit
 
@@ -33,20 +32,20 @@ module _ {A : Type 0} (limit : ℕ) (rs : List Refusal) (x : A) where
 -- ---- a run that is refused, or not
 
 module _ {A : Type 0} (limit room : ℕ) (t : Tree) (rs : List Record) (x : A) where
-  deeper : limit < deepest t → refused tooDeep 0 ≡ answer (runRefusals limit room t rs) x
+  pub deeper : limit < deepest t → refused tooDeep 0 ≡ answer (runRefusals limit room t rs) x
   deeper h = simp (lt-ltb limit (deepest t) h)
 
   module _ (shallow : deepest t ≤ limit) (count : length rs ≡ recordCount t) where
-    more-records : room < recordCount t → refused noRecords (recordCount t) ≡ answer (runRefusals limit room t rs) x
+    pub more-records : room < recordCount t → refused noRecords (recordCount t) ≡ answer (runRefusals limit room t rs) x
     more-records h = simp (le-ltb limit (deepest t) shallow, count, lt-ltb room (recordCount t) h)
 
-    fits : recordCount t ≤ room → accepted x ≡ answer (runRefusals limit room t rs) x
+    pub fits : recordCount t ≤ room → accepted x ≡ answer (runRefusals limit room t rs) x
     fits h = simp (le-ltb limit (deepest t) shallow, count, le-ltb room (recordCount t) h)
 
 -- ---- a message
 
 module _ (D : Dictionary) (limit room : ℕ) (s : List ℕ) where
-  abbrev rest : List Refusal
+  abbrev pub rest : List Refusal
   rest = refuse (not (tiles (messageRun D s))) notTiled 0 ∷ runRefusals limit room (messageRun D s) (messageRecords D s)
 
   pub message-limit-under : limit < 1 → refused badDepth 0 ≡ decoded D limit room s
@@ -66,32 +65,12 @@ module _ (D : Dictionary) (limit room : ℕ) (s : List ℕ) where
         ∙ limit-good limit (headerRefusals s ++ rest) (messageOf D s) low high
 
     module _ (header : passes (headerRefusals s) ≡ true) where
-      past : answer rest (messageOf D s) ≡ decoded D limit room s
+      -- past the header a message's answer is its body's
+      pub message-past : answer rest (messageOf D s) ≡ decoded D limit room s
       unfolding decoded messageRefusals
-      past =
+      message-past =
           sym (answer-past (headerRefusals s) rest (messageOf D s) header)
           ∙ limit-good limit (headerRefusals s ++ rest) (messageOf D s) low high
-
-      pub message-not-tiled : tiles (messageRun D s) ≡ false → refused notTiled 0 ≡ decoded D limit room s
-      message-not-tiled e = rw e at past
-
-      module _ (tiled : tiles (messageRun D s) ≡ true) where
-        tiles-past : answer (runRefusals limit room (messageRun D s) (messageRecords D s)) (messageOf D s) ≡ decoded D limit room s
-        tiles-past = rw tiled at past
-
-        pub message-too-deep : limit < deepest (messageRun D s) → refused tooDeep 0 ≡ decoded D limit room s
-        message-too-deep h = deeper limit room (messageRun D s) (messageRecords D s) (messageOf D s) h ∙ tiles-past
-
-        module _ (shallow : deepest (messageRun D s) ≤ limit) where
-          count : length (messageRecords D s) ≡ recordCount (messageRun D s)
-          unfolding messageRecords
-          count = records-count D 20 1 (messageRun D s)
-
-          pub message-no-records : room < recordCount (messageRun D s) → refused noRecords (recordCount (messageRun D s)) ≡ decoded D limit room s
-          message-no-records h = more-records limit room (messageRun D s) (messageRecords D s) (messageOf D s) shallow count h ∙ tiles-past
-
-          pub message-accepted : recordCount (messageRun D s) ≤ room → accepted (messageOf D s) ≡ decoded D limit room s
-          message-accepted h = fits limit room (messageRun D s) (messageRecords D s) (messageOf D s) shallow count h ∙ tiles-past
 
 -- ---- one AVP alone
 
@@ -116,22 +95,9 @@ module _ (D : Dictionary) (limit room : ℕ) (s : List ℕ) where
         ∙ limit-good limit (avpRefusals s ++ alone-rest) (aloneOf D s) low high
 
     module _ (front : passes (avpRefusals s) ≡ true) where
-      alone-past : answer alone-rest (aloneOf D s) ≡ avpAlone D limit room s
+      -- past what stands at the front the answer is that of the run of one
+      pub alone-past : answer alone-rest (aloneOf D s) ≡ avpAlone D limit room s
       unfolding avpAlone aloneRefusals
       alone-past =
           sym (answer-past (avpRefusals s) alone-rest (aloneOf D s) front)
           ∙ limit-good limit (avpRefusals s ++ alone-rest) (aloneOf D s) low high
-
-      pub alone-too-deep : limit < deepest (aloneRun D s) → refused tooDeep 0 ≡ avpAlone D limit room s
-      alone-too-deep h = deeper limit room (aloneRun D s) (aloneRecords D s) (aloneOf D s) h ∙ alone-past
-
-      module _ (shallow : deepest (aloneRun D s) ≤ limit) where
-        alone-count : length (aloneRecords D s) ≡ recordCount (aloneRun D s)
-        unfolding aloneRecords
-        alone-count = records-count D 0 1 (aloneRun D s)
-
-        pub alone-no-records : room < recordCount (aloneRun D s) → refused noRecords (recordCount (aloneRun D s)) ≡ avpAlone D limit room s
-        alone-no-records h = more-records limit room (aloneRun D s) (aloneRecords D s) (aloneOf D s) shallow alone-count h ∙ alone-past
-
-        pub alone-accepted : recordCount (aloneRun D s) ≤ room → accepted (aloneOf D s) ≡ avpAlone D limit room s
-        alone-accepted h = fits limit room (aloneRun D s) (aloneRecords D s) (aloneOf D s) shallow alone-count h ∙ alone-past

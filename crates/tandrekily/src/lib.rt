@@ -1,9 +1,9 @@
 // The library for C and Rust: each public way to decode and to write, over numbers and byte slices, by the C calling convention.
 // This crate knows how an answer is laid out as numbers, and nothing of how it comes about.
 use attribute::Reading;
+use avps::Counts;
 use diameter::Decoded;
 use diameter::DecodedAvp;
-use diameter::One;
 use header::Header;
 use header::Parsed;
 use writer::Fields;
@@ -17,14 +17,15 @@ ghost use Rattle.rfc6733.specs.Writer.{written, tableBytes, output};
 ghost use Rattle.attribute.specs.Attributes.{dictionary};
 ghost use Rattle.header.specs.Parsed as header;
 ghost use Rattle.header.specs.Parsed.{headerAs};
-ghost use Rattle.diameter.specs.Answers.{oneAs, answerOf, avpAnswerOf};
+ghost use Rattle.avps.specs.Answers.{countsAs};
+ghost use Rattle.diameter.specs.Answers.{answerOf, avpAnswerOf};
 ghost use Rattle.writer.specs.Answers as writer;
 ghost use Rattle.tandrekily.specs.Results.{readingOf, fieldsGiven, result, refusal, messageResult, avpResult, writtenResult, messageAsked, avpAsked};
 
 /// How many numbers a result has. include/tandrekily.h names them.
 pub const RESULT: usize = 13;
 
-const NO_COUNTS: One = One {
+const NO_COUNTS: Counts = Counts {
     flags: 0,
     records: 0,
     tried: 0,
@@ -47,8 +48,8 @@ fn reading_of(rfc: bool) -> Reading
     if rfc { Reading::Rfc } else { Reading::Sawp }
 }
 
-fn lay(number: u64, amount: usize, counts: One, header: Header) -> [u64; RESULT]
-    ensures { λ r. ⌜ r ≡ result number amount (oneAs counts) (headerAs header) ⌝ }
+fn lay(number: u64, amount: usize, counts: Counts, header: Header) -> [u64; RESULT]
+    ensures { λ r. ⌜ r ≡ result number amount (countsAs counts) (headerAs header) ⌝ }
 {
     [
         number,
@@ -79,7 +80,7 @@ fn of_message(d: Decoded) -> [u64; RESULT]
     match d {
         Decoded::Accepted(m) => {
             let header = m.header;
-            let counts = One {
+            let counts = Counts {
                 flags: m.flags,
                 records: m.records,
                 tried: m.tried,
@@ -102,7 +103,7 @@ fn of_header(p: Parsed) -> [u64; RESULT]
 {
     match p {
         Parsed::Accepted { header, flags } => {
-            let counts = One {
+            let counts = Counts {
                 flags,
                 records: 0,
                 tried: 0,
@@ -120,7 +121,7 @@ fn of_avp(d: DecodedAvp) -> [u64; RESULT]
     ensures { λ r. ⌜ r ≡ avpResult (avpAnswerOf d) ⌝ }
 {
     match d {
-        DecodedAvp::Accepted(one) => lay(0, 0, one, NO_HEADER),
+        DecodedAvp::Accepted(counts) => lay(0, 0, counts, NO_HEADER),
         DecodedAvp::Incomplete(n) => refused(1, n),
         DecodedAvp::BadLength => refused(3, 0),
         DecodedAvp::TooDeep => refused(5, 0),
@@ -134,7 +135,7 @@ fn of_written(w: Written) -> [u64; RESULT]
 {
     match w {
         Written::Accepted(total) => {
-            let counts = One {
+            let counts = Counts {
                 flags: 0,
                 records: 0,
                 tried: 0,

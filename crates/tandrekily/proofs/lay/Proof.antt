@@ -3,12 +3,12 @@
 use mathlib.Core.Path.{refl}
 use borrow.Author.Needs.{needs}
 use Rattle.header.specs.Parsed.{headerAs}
-use Rattle.diameter.specs.Answers.{oneAs}
+use Rattle.avps.specs.Answers.{countsAs}
 use Rattle.tandrekily.proofs.lay.Statement.{statement}
 use Rattle.tandrekily.proofs.lay.Tie as tie
 
 returns : tie.Need-returns
-unfolding headerAs oneAs
+unfolding headerAs countsAs
 returns c = refl
 
 pub lay-spec : {M : Type 1} → statement M

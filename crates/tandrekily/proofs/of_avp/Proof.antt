@@ -2,13 +2,14 @@
 -- Assumes nothing.
 use borrow.Author.Needs.{needs}
 use Rattle.header.specs.Parsed.{headerAs}
-use Rattle.diameter.specs.Answers.{oneAs, avpAnswerOf}
+use Rattle.avps.specs.Answers.{countsAs}
+use Rattle.diameter.specs.Answers.{avpAnswerOf}
 use Rattle.tandrekily.specs.Results.{avpResult}
 use Rattle.tandrekily.proofs.of_avp.Statement.{statement}
 use Rattle.tandrekily.proofs.of_avp.Tie as tie
 
 returns : tie.Need-returns
-unfolding avpResult avpAnswerOf oneAs headerAs
+unfolding avpResult avpAnswerOf countsAs headerAs
 returns c = rw (c .before .before .d .given .1) (c .lay .ensures)
 
 returns-2 : tie.Need-returns-2

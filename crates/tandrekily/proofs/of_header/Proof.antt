@@ -2,13 +2,13 @@
 -- Assumes nothing.
 use borrow.Author.Needs.{needs}
 use Rattle.header.specs.Parsed.{headerAs, answerOf}
-use Rattle.diameter.specs.Answers.{oneAs}
+use Rattle.avps.specs.Answers.{countsAs}
 use Rattle.tandrekily.specs.Results.{messageResult}
 use Rattle.tandrekily.proofs.of_header.Statement.{statement}
 use Rattle.tandrekily.proofs.of_header.Tie as tie
 
 returns : tie.Need-returns
-unfolding messageResult answerOf oneAs headerAs
+unfolding messageResult answerOf countsAs headerAs
 returns c = rw (c .before .before .p .given .1) (c .lay .ensures)
 
 returns-2 : tie.Need-returns-2

@@ -2,13 +2,14 @@
 -- Assumes nothing.
 use borrow.Author.Needs.{needs}
 use Rattle.header.specs.Parsed.{headerAs}
-use Rattle.diameter.specs.Answers.{oneAs, messageAs, answerOf}
+use Rattle.avps.specs.Answers.{countsAs}
+use Rattle.diameter.specs.Answers.{messageAs, answerOf}
 use Rattle.tandrekily.specs.Results.{messageResult}
 use Rattle.tandrekily.proofs.of_message.Statement.{statement}
 use Rattle.tandrekily.proofs.of_message.Tie as tie
 
 returns : tie.Need-returns
-unfolding messageResult answerOf messageAs oneAs headerAs
+unfolding messageResult answerOf messageAs countsAs headerAs
 returns c = rw (c .before .before .before .d .given .1) (c .lay .ensures)
 
 returns-2 : tie.Need-returns-2

@@ -2,14 +2,14 @@
 -- Assumes nothing.
 use borrow.Author.Needs.{needs}
 use Rattle.header.specs.Parsed.{headerAs}
-use Rattle.diameter.specs.Answers.{oneAs}
+use Rattle.avps.specs.Answers.{countsAs}
 use Rattle.writer.specs.Answers.{answerOf}
 use Rattle.tandrekily.specs.Results.{writtenResult}
 use Rattle.tandrekily.proofs.of_written.Statement.{statement}
 use Rattle.tandrekily.proofs.of_written.Tie as tie
 
 returns : tie.Need-returns
-unfolding writtenResult answerOf oneAs headerAs
+unfolding writtenResult answerOf countsAs headerAs
 returns c = rw (c .before .before .w .given .1) (c .lay .ensures)
 
 returns-2 : tie.Need-returns-2

@@ -2,12 +2,12 @@
 -- Assumes nothing.
 use borrow.Author.Needs.{needs}
 use Rattle.header.specs.Parsed.{headerAs}
-use Rattle.diameter.specs.Answers.{oneAs}
+use Rattle.avps.specs.Answers.{countsAs}
 use Rattle.tandrekily.proofs.refused.Statement.{statement}
 use Rattle.tandrekily.proofs.refused.Tie as tie
 
 returns : tie.Need-returns
-unfolding headerAs oneAs
+unfolding headerAs countsAs
 returns c = c .lay .ensures
 
 pub refused-spec : {M : Type 1} → statement M

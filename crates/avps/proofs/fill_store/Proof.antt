@@ -6,9 +6,9 @@ use borrow.Author.Needs.{needs}
 use Rattle.octets.specs.Run.{tree}
 use Rattle.rfc6733.specs.Record.{laid, avps, records}
 use Rattle.attribute.specs.Attributes.{dictionary}
-use Rattle.diameter.proofs.Filled.{records-size, cleared}
-use Rattle.diameter.proofs.fill_store.Statement.{statement}
-use Rattle.diameter.proofs.fill_store.Tie as tie
+use Rattle.avps.proofs.Clearing.{records-size, cleared}
+use Rattle.avps.proofs.fill_store.Statement.{statement}
+use Rattle.avps.proofs.fill_store.Tie as tie
 
 returns : tie.Need-returns
 returns c =

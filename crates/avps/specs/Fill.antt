@@ -9,14 +9,14 @@ use Rattle.octets.specs.Run.{Tree, deepest}
 use Rattle.rfc6733.specs.Dictionary.{Dictionary}
 use Rattle.rfc6733.specs.Record.{recordSize, laid, errors, records, recordCount}
 use Rattle.rfc6733.specs.Entered.{valueIn, entered}
-use Rattle.diameter.specs.declared.fill.Ran.{Ran}
-use Rattle.diameter.specs.declared.fill.Valued.{Valued}
+use Rattle.avps.specs.declared.fill.Ran.{Ran}
+use Rattle.avps.specs.declared.fill.Valued.{Valued}
 
--- the records of t fit a store of l bytes, the places of n bytes from a place on fit 32 bits, and no depth passes 64
+-- the records of t fit a store of l bytes, and neither the places of n bytes from a place on nor its depths pass a usize
 pub record Room (t : Tree) (place n depth l : ℕ) : Type 0 where
   pub records-fit : recordCount t * recordSize ≤ l
-  pub places-fit : place + n < 2 ^ 32
-  pub depths-fit : depth + deepest t ≤ 65
+  pub places-fit : place + n < 2 ^ 64
+  pub depths-fit : depth + deepest t < 2 ^ 64
 
 -- the records of t stand at the front of the store; their number and their flags are answered
 pub record Written (D : Dictionary) (t : Tree) (place depth : ℕ) (r : Ran) (before after : List ℕ) : Type 0 where
@@ -33,6 +33,6 @@ pub record Members (D : Dictionary) (code vendor : ℕ) (s : List ℕ) (place de
   pub store-is : after ≡ over (laid (records D place (depth + 1) (entered D code vendor s))) before
 
 -- the store holds the records of t, and zero to its last byte; the flags are theirs
-pub record Filled (D : Dictionary) (t : Tree) (place e : ℕ) (before after : List ℕ) : Type 0 where
+pub record Cleared (D : Dictionary) (t : Tree) (place e : ℕ) (before after : List ℕ) : Type 0 where
   pub errors-are : e ≡ errors D t
   pub store-is : after ≡ laid (records D place 1 t) ++ replicate (length before - length (laid (records D place 1 t))) 0

@@ -2,7 +2,7 @@
 -- A run's records are those of its AVPs one after the other (`Filling`); an AVP's are its own and its members' (`OwnRecord`); and the data
 -- of an AVP are entered where their value is Grouped (`Entering`). What is left of the depth falls when a group is entered.
 -- Assumes nothing.
-use Prim.Native.Nat.{ℕ, _+_, _-_, _*_, _<_, _≤_}
+use Prim.Native.Nat.{ℕ, _+_, _-_, _*_, _^_, _<_, _≤_}
 use mathlib.Core.Path.{sym, _∙_}
 use native.Mathlib.Omega.{arith}
 use lib.ListN.{length, take, drop}
@@ -12,18 +12,19 @@ use borrow.Fn.Kinds.{In}
 use borrow.Fn.PlainCycle.{Measures, is, falls, and}
 use borrow.Rule.Slice.PartMut.{putMid}
 use Rattle.octets.specs.Run.{tree}
+use Rattle.octets.proofs.Numbers.{be-small}
 use Rattle.rfc6733.specs.Flags.{join}
 use Rattle.rfc6733.specs.Record.{recordSize, avps}
 use Rattle.rfc6733.specs.Entered.{entered}
 use Rattle.attribute.specs.Attributes.{dictionary}
 use Rattle.avp.proofs.Fronts.{Turn, turn, stuck}
 use Rattle.value.specs.Values.{Shows, newValue}
-use Rattle.diameter.specs.Fill.{Room}
-use Rattle.diameter.proofs.OwnBytes.{OwnBytes, own-bytes}
-use Rattle.diameter.proofs.Filling.{Filling, nothing-filled, never-stuck, all-filled, room-for-one, one-filled}
-use Rattle.diameter.proofs.OwnRecord.{lentData, Opened, opened, room-for-own, room-for-members, avp-written}
-use Rattle.diameter.proofs.OtherKinds.{other-address}
-use Rattle.diameter.proofs.Entering.{kind-found, Group, a-group, no-members, members-written}
+use Rattle.avps.specs.Fill.{Room}
+use Rattle.avps.proofs.OwnBytes.{OwnBytes, own-bytes}
+use Rattle.avps.proofs.Filling.{Filling, nothing-filled, never-stuck, all-filled, room-for-one, one-filled}
+use Rattle.avps.proofs.OwnRecord.{lentData, Opened, opened, room-for-own, room-for-members, avp-written}
+use Rattle.avps.proofs.OtherKinds.{other-address}
+use Rattle.avps.proofs.Entering.{kind-found, Group, a-group, no-members, members-written}
 use Rattle.attribute.proofs.kind.Reads as table-kind
 use Rattle.avp.proofs.AVP.complete.Reads as complete
 use Rattle.avp.proofs.AVP.header_size.Reads as header-size
@@ -32,33 +33,32 @@ use Rattle.record.proofs.Record.put.Reads as put
 use Rattle.value.proofs.Value.new.Reads as new
 use Rattle.value.proofs.Value.kind.Reads as kind
 use Rattle.value.proofs.Value.number.Reads as number
-use Rattle.diameter.proofs.fill.pads.Reads as pads
-use Rattle.diameter.proofs.fill.own_errors.Reads as own-errors
-use Rattle.diameter.proofs.fill.read_run.Kinds as run-kinds
-use Rattle.diameter.proofs.fill.read_run.Reads as run-reads
-use Rattle.diameter.proofs.fill.read_avp.Kinds as avp-kinds
-use Rattle.diameter.proofs.fill.read_avp.Reads as avp-reads
-use Rattle.diameter.proofs.fill.read_value.Kinds as value-kinds
-use Rattle.diameter.proofs.fill.read_value.Reads as value-reads
-use Rattle.diameter.proofs.fill.+read_avp+read_run+read_value.{statement}
-use Rattle.diameter.proofs.fill.+read_avp+read_run+read_value.Lts-read_run as run
-use Rattle.diameter.proofs.fill.+read_avp+read_run+read_value.Lts-read_avp as avp
-use Rattle.diameter.proofs.fill.+read_avp+read_run+read_value.Lts-read_value as value
-use Rattle.diameter.proofs.fill.+read_avp+read_run+read_value.Tie.{close}
+use Rattle.avps.proofs.fill.pads.Reads as pads
+use Rattle.avps.proofs.fill.own_errors.Reads as own-errors
+use Rattle.avps.proofs.fill.read_run.Kinds as run-kinds
+use Rattle.avps.proofs.fill.read_run.Reads as run-reads
+use Rattle.avps.proofs.fill.read_avp.Kinds as avp-kinds
+use Rattle.avps.proofs.fill.read_avp.Reads as avp-reads
+use Rattle.avps.proofs.fill.read_value.Kinds as value-kinds
+use Rattle.avps.proofs.fill.read_value.Reads as value-reads
+use Rattle.avps.proofs.fill.+read_avp+read_run+read_value.{statement}
+use Rattle.avps.proofs.fill.+read_avp+read_run+read_value.Lts-read_run as run
+use Rattle.avps.proofs.fill.+read_avp+read_run+read_value.Lts-read_avp as avp
+use Rattle.avps.proofs.fill.+read_avp+read_run+read_value.Lts-read_value as value
+use Rattle.avps.proofs.fill.+read_avp+read_run+read_value.Tie.{close}
 
 -- ---- the measures
 
--- What is left of the depth, and within a level the order of the calls. An empty group at the depth 64 is entered too, so a run may have
--- the depth 65.
+-- What is left of the depths that a usize has, and within a level the order of the calls.
 
 abbrev μ-run : Measures 3 run-kinds.ps ℕ
-μ-run κs a = 3 * (65 - a .1 .1 .1 .1 .0) + 2
+μ-run κs a = 3 * (2 ^ 64 - a .1 .1 .1 .1 .0) + 2
 
 abbrev μ-avp : Measures 3 avp-kinds.ps ℕ
-μ-avp κs a = 3 * (65 - a .1 .1 .1 .1 .1 .0) + 1
+μ-avp κs a = 3 * (2 ^ 64 - a .1 .1 .1 .1 .1 .0) + 1
 
 abbrev μ-value : Measures 3 value-kinds.ps ℕ
-μ-value κs a = 3 * (65 - a .1 .1 .1 .1 .1 .1 .0)
+μ-value κs a = 3 * (2 ^ 64 - a .1 .1 .1 .1 .1 .1 .0)
 
 abbrev run-at : ℕ → In 3 run-kinds.ps
 run-at t = and 3 run-kinds.ps (is 3 run-kinds.ps μ-run t) run-reads.Pre
@@ -278,19 +278,25 @@ module _ (t : ℕ) where
   avp-pads-requires c κs = omega (arith, avp-opened (avp-from-pads (c .before)))
 
   avp-cast-t27 : avp.Need-cast-t27 (avp-calls t) (avp-at t) avp-reads.Post
-  avp-cast-t27 c = let h = avp-from-join c in omega (arith, avp-opened h, avp-inside h)
+  avp-cast-t27 c =
+      let h = avp-from-join c in
+      let k = h .before .before in
+      omega (arith, avp-opened h .fields .length-is, be-small 3 (now (avp-start h .args .s)) 5 (λ i. omega (arith, k .shared-slice-known2 .given i)))
 
   avp-add-t19 : avp.Need-add-t19 (avp-calls t) (avp-at t) avp-reads.Post
   avp-add-t19 c = omega (arith, avp-inside (avp-from-join c))
 
   avp-cast-t28 : avp.Need-cast-t28 (avp-calls t) (avp-at t) avp-reads.Post
-  avp-cast-t28 c = omega (arith, avp-inside (avp-from-join c))
-
-  avp-sub-t17 : avp.Need-sub-t17 (avp-calls t) (avp-at t) avp-reads.Post
-  avp-sub-t17 c = omega (arith, avp-opened (avp-from-join (c .before)))
+  avp-cast-t28 c = omega arith
 
   avp-cast-t25 : avp.Need-cast-t25 (avp-calls t) (avp-at t) avp-reads.Post
-  avp-cast-t25 c = omega (arith, avp-opened (avp-from-join (c .before)))
+  avp-cast-t25 c = omega arith
+
+  avp-sub-t29 : avp.Need-sub-t29 (avp-calls t) (avp-at t) avp-reads.Post
+  avp-sub-t29 c = omega (arith, avp-opened (avp-from-join (c .before)))
+
+  avp-cast-t30 : avp.Need-cast-t30 (avp-calls t) (avp-at t) avp-reads.Post
+  avp-cast-t30 c = omega (arith, avp-opened (avp-from-join (c .before)))
 
   avp-returns : avp.Need-returns (avp-calls t) (avp-at t) avp-reads.Post
   avp-returns c =
@@ -302,8 +308,8 @@ module _ (t : ℕ) where
       avp-written _ (avp-opened h) (b .pre .1 .0 .1) (b .pre .1 .1 .0) (p .before .before .before .before .read-value .ensures) (p .pads .ensures)
       (o .own-errors .ensures) (j .join .ensures) (c .before .before .before .put .ensures .1)
 
-  avp-add-t14 : avp.Need-add-t14 (avp-calls t) (avp-at t) avp-reads.Post
-  avp-add-t14 c = let b = avp-start (avp-from-join (avp-end-join c)) in omega (arith, avp-returns c .count-is, b .pre .1 .1 .0, b .good)
+  avp-add-t19-2 : avp.Need-add-t19-2 (avp-calls t) (avp-at t) avp-reads.Post
+  avp-add-t19-2 c = let b = avp-start (avp-from-join (avp-end-join c)) in omega (arith, avp-returns c .count-is, b .pre .1 .1 .0, b .good)
 
 -- ---- the value
 
@@ -375,10 +381,11 @@ pub +read-avp+read-run+read-value-spec : {M : Type 1} → statement M
     (avp-cast-t27 t)
     (avp-add-t19 t)
     (avp-cast-t28 t)
-    (avp-sub-t17 t)
     (avp-cast-t25 t)
+    (avp-sub-t29 t)
+    (avp-cast-t30 t)
     (λ c κs. search needs)
-    (avp-add-t14 t)
+    (avp-add-t19-2 t)
     (λ c. search needs)
     (avp-returns t))
     (λ t.

@@ -1,7 +1,7 @@
 -- One AVP from its own bytes: its data and its padding are the parts that the code lends, so the record that is put before its
 -- members' is the definition's, and the two together are the records of the AVP.
 -- Assumes nothing.
-use Prim.Native.Nat.{ℕ, _+_, _-_, _≤_}
+use Prim.Native.Nat.{ℕ, _+_, _-_, _%_, _^_, _≤_}
 use mathlib.Core.Path.{_≡_, sym, ap, ap₂, _∙_}
 use mathlib.Core.Bool.{not}
 use mathlib.Core.List.{List, _∷_, _++_}
@@ -14,6 +14,7 @@ use borrow.Rule.Slice.PartMut.{putMid}
 use Rattle.octets.specs.Octets.{be, over}
 use Rattle.octets.specs.Run.{tree}
 use Rattle.octets.proofs.Lists.{rest, over-before, lent}
+use Rattle.octets.proofs.Numbers.{written-low}
 use Rattle.rfc6733.specs.Flags.{flag, join, nonZeroReserved, nonZeroPadding}
 use Rattle.rfc6733.specs.Avp as avp
 use Rattle.rfc6733.specs.Avp.{headSize, avpReserved, payload, padding, dataSize, Exact}
@@ -32,8 +33,8 @@ use Rattle.avp.specs.Front.{avpOf}
 use Rattle.avp.proofs.Fronts.{Here, here}
 use Rattle.record.specs.declared.Record.{Record}
 use Rattle.record.specs.Stored.{recordAs, put}
-use Rattle.diameter.specs.declared.fill.Valued.{Valued}
-use Rattle.diameter.specs.Fill.{Room, Written, Members}
+use Rattle.avps.specs.declared.fill.Valued.{Valued}
+use Rattle.avps.specs.Fill.{Room, Written, Members}
 
 -- the data as `&s[from..to]` lends them, and the padding as `&s[to..]` does
 abbrev pub lentData : List ℕ → AVP → ℕ → List ℕ
@@ -91,8 +92,8 @@ ownRecord a from place depth pads errors m =
       flags = a .flags;
       length = a .length;
       vendor = a .«vendor_id»;
-      place = place + from;
-      depth = depth;
+      place = (place + from) % 256 ^ 4;
+      depth = depth % 256 ^ 1;
       kind = m .kind;
       errors = errors;
       padding = a .size - a .length;
@@ -141,10 +142,11 @@ module _ (D : Dictionary) {s : List ℕ} {a : AVP} {from : ℕ} (o : Opened s a 
   own-errors-are p e ep ee = ee ∙ rw (ep, o .pads-are, o .fields .flags-is)
 
   own-record-is : (place depth p e : ℕ) (m : Valued) (v : Value) → p ≡ be 3 (lentPadding s a) 0 → m .kind ≡ v .kind → m .number ≡ v .number
-      → e ≡ join (ownErrors s) (v .errors) → recordAs (ownRecord a from place depth p e m) ≡ recordOf place depth s v
-  unfolding recordAs recordOf avp.pads
+      → e ≡ join (ownErrors s) (v .errors) → recordBytes (recordAs (ownRecord a from place depth p e m)) ≡ recordBytes (recordOf place depth s v)
+  unfolding recordBytes recordAs recordOf avp.pads
   own-record-is place depth p e m v ep ek en ee =
-      rw (ep, ek, en, ee, o .pads-are, o .padding-is, o .from-is, o .fields .code-is, o .fields .flags-is, o .fields .length-is, o .fields .vendor-is)
+      rw (written-low 4 (place + from), written-low 1 depth)
+      (rw (ep, ek, en, ee, o .pads-are, o .padding-is, o .from-is, o .fields .code-is, o .fields .flags-is, o .fields .length-is, o .fields .vendor-is))
 
   -- p is the padding as a number, oe the flags of the AVP's own header and padding, and e these with its value's
   pub avp-written : {place depth : ℕ} {store back last : List ℕ} {m : Valued} {p oe e : ℕ}
@@ -162,7 +164,8 @@ module _ (D : Dictionary) {s : List ℕ} {a : AVP} {from : ℕ} (o : Opened s a 
       let own = recordOf place depth s w in
       let members = records D (place + from) (depth + 1) inside in
       let errors-are : e ≡ join (ownErrors s) (w .errors) = ee ∙ ap₂ join (own-errors-are p oe ep eo) (v .errors-are) in
-      let own-is : recordAs (ownRecord a from place depth p e m) ≡ own =
+      let put-in = recordAs (ownRecord a from place depth p e m) in
+      let own-is : recordBytes put-in ≡ recordBytes own =
       own-record-is place depth p e m w ep (v .kind-is) (v .number-is) errors-are
       in
       let records-are : records D place depth (tree (avps D) s) ≡ own ∷ members =
@@ -173,7 +176,7 @@ module _ (D : Dictionary) {s : List ℕ} {a : AVP} {from : ℕ} (o : Opened s a 
         errors-are = errors-are ∙ sym (t .errors-are);
         store-is =
             el
-            ∙ ap (λ (r : rfc.Record). put r (putMid recordSize (length store - recordSize) store back)) own-is
-            ∙ put-before own (laid members) store back (room-for-own room) (v .store-is)
+            ∙ put-before put-in (laid members) store back (room-for-own room) (v .store-is)
+            ∙ ap (λ (b : List ℕ). over (b ++ laid members) store) own-is
             ∙ ap (λ (rs : List rfc.Record). over (laid rs) store) (sym records-are);
       }

@@ -21,9 +21,9 @@ use Rattle.attribute.specs.Attributes.{dictionary, kindTable, kindBy}
 use Rattle.attribute.proofs.Dictionaries.{kind-by-table, kind-at-most}
 use Rattle.value.specs.declared.Read.{Read}
 use Rattle.value.specs.Values.{kindOf, numberOf, readAs, Shows, known, newValue}
-use Rattle.diameter.specs.declared.fill.Ran.{Ran}
-use Rattle.diameter.specs.Fill.{Written, Members}
-use Rattle.diameter.proofs.OtherKinds.{Other, other-read}
+use Rattle.avps.specs.declared.fill.Ran.{Ran}
+use Rattle.avps.specs.Fill.{Written, Members}
+use Rattle.avps.proofs.OtherKinds.{Other, other-read}
 
 -- the data s are a group that tiles, and are entered
 pub record Group (D : Dictionary) (code vendor : ℕ) (s : List ℕ) : Type 0 where

@@ -9,8 +9,8 @@ use denote.Ref.{now}
 use borrow.Author.Needs.{needs}
 use Rattle.octets.specs.Octets.{be}
 use Rattle.octets.proofs.Numbers.{read-at}
-use Rattle.diameter.proofs.fill.pads.Statement.{statement}
-use Rattle.diameter.proofs.fill.pads.Tie as tie
+use Rattle.avps.proofs.fill.pads.Statement.{statement}
+use Rattle.avps.proofs.fill.pads.Tie as tie
 
 absent : (p : List ℕ) (i : ℕ) → length p ≤ i → getD p i 0 ≡ 0
 absent p i h = List·getD-eq-default p 0 {n = i} h

@@ -22,9 +22,9 @@ use Rattle.rfc6733.proofs.Items.{sound}
 use Rattle.rfc6733.proofs.Layouts.{laid-length, laid-append}
 use Rattle.rfc6733.proofs.RunRecords.{records-count}
 use Rattle.avp.specs.declared.AVP.{AVP}
-use Rattle.diameter.specs.declared.fill.Ran.{Ran}
-use Rattle.diameter.specs.Fill.{Room, Written}
-use Rattle.diameter.proofs.OwnBytes.{OwnBytes}
+use Rattle.avps.specs.declared.fill.Ran.{Ran}
+use Rattle.avps.specs.Fill.{Room, Written}
+use Rattle.avps.proofs.OwnBytes.{OwnBytes}
 
 -- Of the run t at a place, n records with the flags e are written over the store `before`, which has become `now`. The run r is
 -- left, which starts at the place q.

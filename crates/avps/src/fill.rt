@@ -19,7 +19,12 @@ ghost use Rattle.rfc6733.specs.Record.{avps};
 ghost use Rattle.rfc6733.specs.Entered.{entered};
 ghost use Rattle.avp.specs.Front.{avpOf};
 ghost use Rattle.attribute.specs.Attributes.{dictionary, kindTable};
-ghost use Rattle.diameter.specs.Fill.{Room, Written, Members};
+ghost use Rattle.avps.specs.Fill.{Room, Written, Members};
+
+// A record has four bytes for a place and one for a depth: the lowest of the number.
+const PLACES: usize = 0x1_0000_0000;
+
+const DEPTHS: usize = 0x100;
 
 // How many records, and their error flags joined.
 pub(super) struct Ran {
@@ -64,7 +69,7 @@ pub(super) fn read_run(
     kinds: &[u8],
     s: &[u8],
     place: usize,
-    depth: u8,
+    depth: usize,
     store: &mut [u8],
 ) -> Ran
     requires { ⌜ tiles (tree (avps (dictionary reading)) (now s)) ≡ true ⌝ }
@@ -103,7 +108,7 @@ fn read_avp(
     s: &[u8],
     a: AVP,
     place: usize,
-    depth: u8,
+    depth: usize,
     store: &mut [u8],
 ) -> Ran
     requires { ⌜ (a ≡ avpOf (now s)) × Exact (now s) ⌝ }
@@ -130,8 +135,8 @@ fn read_avp(
         flags: a.flags,
         length: to as u32,
         vendor: a.vendor_id,
-        place: (place + from) as u32,
-        depth,
+        place: ((place + from) % PLACES) as u32,
+        depth: (depth % DEPTHS) as u8,
         kind: value.kind,
         errors,
         padding: (a.size - to) as u8,
@@ -152,7 +157,7 @@ fn read_value(
     vendor: u32,
     data: &[u8],
     place: usize,
-    depth: u8,
+    depth: usize,
     store: &mut [u8],
 ) -> Valued
     requires { ⌜ Room (entered (dictionary reading) code vendor (now «data»)) place (length (now «data»)) (depth + 1) (length (now store)) ⌝ }

@@ -1,0 +1,9 @@
+pub mod OwnBytes
+pub mod Filling
+pub mod OwnRecord
+pub mod OtherKinds
+pub mod Entering
+pub mod Clearing
+pub mod AnswerOf
+pub mod Answered
+pub mod Told

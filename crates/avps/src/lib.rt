@@ -1,0 +1,88 @@
+// Reading a run of AVPs: it is counted first, and where it tiles and fits, its records are put into a lent store.
+// This crate knows no message. It writes nothing until everything is known to fit, so a refusal has changed no byte.
+mod fill;
+
+use attribute::Reading;
+use count::Counted;
+use record::Record;
+ghost use mathlib.Core.Path.{_≡_};
+ghost use mathlib.Core.Bool.{true};
+ghost use lib.ListN.{length, replicate};
+ghost use Rattle.octets.specs.Run.{tree, tiles};
+ghost use Rattle.rfc6733.specs.Record.{avps};
+ghost use Rattle.rfc6733.specs.Decoder.{capacity, stored};
+ghost use Rattle.attribute.specs.Attributes.{dictionary};
+ghost use Rattle.avps.specs.Fill.{Room, Cleared};
+ghost use Rattle.avps.specs.Answers.{answerOf, runAnswer, runRecords};
+
+/// An accepted run: its error flags, number of records, headers tried and length.
+pub struct Counts {
+    pub flags: u8,
+    pub records: usize,
+    pub tried: usize,
+    pub length: usize,
+}
+
+/// What reading a run answers.
+pub enum Filled {
+    Accepted(Counts),
+    NotTiled,
+    TooDeep,
+    NoRecords(usize),
+}
+
+// Sets every byte to zero.
+fn clear(store: &mut [u8])
+    ensures { λ _. ⌜ now (store .exit) ≡ replicate (length (now (store .entry))) 0 ⌝ }
+{
+    let mut i: usize = 0;
+    while i < store.len() {
+        store[i] = 0;
+        i += 1;
+    }
+}
+
+// Fills the store with the records of the run `s`, which stands at `place`, and with zero after them. Answers their error flags.
+fn fill_store(reading: Reading, s: &[u8], place: usize, store: &mut [u8]) -> u8
+    requires { ⌜ tiles (tree (avps (dictionary reading)) (now s)) ≡ true ⌝ }
+    requires { ⌜ Room (tree (avps (dictionary reading)) (now s)) place (length (now s)) 1 (length (now store)) ⌝ }
+    ensures { λ r. ⌜ Cleared (dictionary reading) (tree (avps (dictionary reading)) (now (s .entry))) place r (now (store .entry)) (now (store .exit)) ⌝ }
+{
+    let kinds = attribute::kind_table(reading);
+    let ran = fill::read_run(reading, &kinds, s, place, 1, store);
+    let n = ran.records;
+    clear(&mut store[n * Record::SIZE..]);
+    ran.errors
+}
+
+/// Reads the run `s`, which stands at `place` of the input, into records in `store`. Headers may be tried on `limit` levels.
+pub fn parse_avps(reading: Reading, limit: usize, s: &[u8], place: u32, store: &mut [u8]) -> Filled
+    ensures answer { λ r. ⌜ answerOf r ≡ runAnswer (dictionary reading) limit (capacity (length (now (store .entry)))) place (now (s .entry)) ⌝ }
+    ensures store { λ r. ⌜ now (store .exit) ≡ stored (answerOf r) (runRecords (dictionary reading) place (now (s .entry))) (now (store .entry)) ⌝ }
+{
+    let Counted::Counts {
+        tiles,
+        records,
+        tried,
+    } = count::count_run(reading, s, limit)
+    else {
+        // NotTiled comes first
+        if !avp::tiles(s) {
+            return Filled::NotTiled;
+        }
+        return Filled::TooDeep;
+    };
+    if !tiles {
+        return Filled::NotTiled;
+    }
+    if store.len() / Record::SIZE < records {
+        return Filled::NoRecords(records);
+    }
+    let flags = fill_store(reading, s, place as usize, store);
+    Filled::Accepted(Counts {
+        flags,
+        records,
+        tried,
+        length: s.len(),
+    })
+}
