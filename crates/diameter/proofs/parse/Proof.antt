@@ -55,7 +55,7 @@ parse-spec =
     (tie.spec
     returns
     returns-2
-    (λ c κs. search needs)
+    (λ c κs. tt)
     (λ c. search needs)
     parse-body-requires
     (λ c. search needs)

@@ -54,7 +54,7 @@ parse-avp-spec =
     (tie.spec
     returns
     returns-2
-    (λ c κs. search needs)
+    (λ c κs. tt)
     (λ c. search needs)
     parse-one-requires
     (λ c. search needs)

@@ -73,7 +73,7 @@ parse-one-spec =
     tie.close
     (tie.spec
     slice-aggregate-parse-avps
-    (λ c κs. search needs)
+    (λ c κs. tt)
     (λ c. search needs)
     (λ c. search needs)
     (λ c. search needs)

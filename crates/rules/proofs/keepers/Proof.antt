@@ -106,9 +106,9 @@ keepers-spec =
     (λ c. c .before .loop .inv .0)
     (λ c. c .before .loop .inv .0)
     (λ c. search needs)
-    (λ c κs. search needs)
+    (λ c κs. tt)
     returns
-    (λ c κs. search needs)
+    (λ c κs. tt)
     returns-2
     allowed-after-requires
     (λ c. omega (arith, loop (c .before .before .before .before .before) .loop .inv .0, loop (c .before .before .before .before .before) .before .before .good))

@@ -58,9 +58,9 @@ keeps-spec =
     returns
     returns-2
     returns-3
-    (λ c κs. search needs)
+    (λ c κs. tt)
     returns-4
-    (λ c κs. search needs)
+    (λ c κs. tt)
     returns-5
-    (λ c κs. search needs)
+    (λ c κs. tt)
     returns-6)

@@ -40,13 +40,13 @@ keeps-leaf-spec =
     tie.close
     (tie.spec
     (λ c. search needs)
-    (λ c κs. search needs)
+    (λ c κs. tt)
     returns
     (λ c. search needs)
     (λ c. search needs)
     returns-2
     (λ c. search needs)
-    (λ c κs. search needs)
+    (λ c κs. tt)
     returns-3
-    (λ c κs. search needs)
+    (λ c κs. tt)
     returns-4)

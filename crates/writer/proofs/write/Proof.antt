@@ -123,7 +123,7 @@ write-spec =
     tie.close
     (tie.spec
     returns
-    (λ c κs. search needs)
+    (λ c κs. tt)
     returns-2
     returns-3
     (λ c. search needs)

@@ -324,7 +324,7 @@ pub +emit-avp+emit-run-spec : {M : Type 1} → statement M
     (emit-avp-calls t)
     (emit-avp-at t)
     emit-avp.Post
-    (λ c κs. search needs)
+    (λ c κs. tt)
     (λ c. entry t c .pre .1 .0 .1)
     (λ c. entry t c .pre .1 .0 .1)
     (λ c. search needs)
@@ -354,7 +354,7 @@ pub +emit-avp+emit-run-spec : {M : Type 1} → statement M
     (λ c. c .before .loop .inv .0)
     (λ c. c .before .loop .inv .0)
     (λ c. search needs)
-    (λ c κs. search needs)
+    (λ c κs. tt)
     (λ c. search needs)
     (emit-run-returns t)
     (λ c. omega (arith, loop t c .loop .inv .0, start t (loop t c) .good))

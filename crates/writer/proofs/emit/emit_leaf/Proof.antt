@@ -63,7 +63,7 @@ pub emit-leaf-spec : {M : Type 1} → statement M
 emit-leaf-spec =
     tie.close
     (tie.spec
-    (λ c κs. search needs)
+    (λ c κs. tt)
     (λ c. search needs)
     (λ c. search needs)
     (λ c. omega (arith, sizes (c .before .before)))

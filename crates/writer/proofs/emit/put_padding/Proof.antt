@@ -35,7 +35,7 @@ pub put-padding-spec : {M : Type 1} → statement M
 put-padding-spec =
     tie.close
     (tie.spec
-    (λ c κs. search needs)
+    (λ c κs. tt)
     (λ c. search needs)
     (λ c. search needs)
     slice-aggregate-copy

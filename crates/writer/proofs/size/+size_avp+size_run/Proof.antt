@@ -255,7 +255,7 @@ pub +size-avp+size-run-spec : {M : Type 1} → statement M
     (size-avp-calls t)
     (size-avp-at t)
     size-avp.Post
-    (λ c κs. search needs)
+    (λ c κs. tt)
     (size-avp-returns t)
     (λ c. search needs)
     (λ c. search needs)
@@ -285,7 +285,7 @@ pub +size-avp+size-run-spec : {M : Type 1} → statement M
     (λ c. c .before .loop .inv .0)
     (λ c. c .before .loop .inv .0)
     (λ c. search needs)
-    (λ c κs. search needs)
+    (λ c κs. tt)
     (size-run-returns t)
     (λ c. omega (arith, loop t c .loop .inv .0, loop t c .before .before .good))
     (λ c. loop t c .loop .inv .0)
