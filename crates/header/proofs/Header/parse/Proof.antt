@@ -2,7 +2,7 @@
 -- Past them all 20 bytes are there, and the fields and the flags are those of the definition.
 -- Assumes nothing.
 use Prim.Native.Nat.{ℕ, _≤_}
-use mathlib.Core.Path.{_≡_}
+use mathlib.Core.Path.{_≡_, sym, _∙_}
 use mathlib.Core.List.{List}
 use native.Mathlib.Omega.{arith}
 use denote.Ref.{now}
@@ -25,7 +25,7 @@ stated c = read-at 3 _ 1 _ (c .be-u24 .ensures)
 
 -- past the answer of `length` as many bytes are at hand
 at-hand : (c : tie.After-enum-told) → let read = c .before .before .before .before in read .be-u24 .result ≤ length (input read)
-at-hand c = says _ _ Enough (cc)
+at-hand c = says _ _ Enough (sym (c .enum-told .given .1) ∙ c .before .before .length .ensures)
 
 returns : tie.Need-returns
 returns c = no-byte _ (omega arith)
@@ -43,7 +43,7 @@ returns-5 : tie.Need-returns-5
 returns-5 c =
     let read = c .before .before .before .before .before in
     let n = stated read in
-    let m = says (read .be-u24 .result) (length (input read)) (Absent (c .before .absent .given .0 .0)) (cc) in
+    let m = says _ _ (Absent _) (sym (c .before .absent .given .1) ∙ c .before .before .before .length .ensures) in
     cut-off _ (omega arith) (omega arith) (omega arith) _ (record { fewer = omega arith; missing = omega arith })
 
 returns-6 : tie.Need-returns-6
