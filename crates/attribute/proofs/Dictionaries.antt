@@ -1,11 +1,11 @@
--- The kinds by code. A code past every code of a table is Unhandled, by induction over the table; the codes before it are one
+-- The kinds by code. A code that a table doesn't list is Unhandled, by induction over the table; the codes that it lists are one
 -- computation. So the sawp dictionary is document 01's table at every code, the table of a reading gives its kinds, and both
 -- readings have the same groups.
 -- Assumes nothing.
 use Prim.Native.Nat.{ℕ, max, _≤_, _<_}
 use mathlib.Core.Path.{_≡_, refl, sym, ap, _∙_}
-use mathlib.Core.Bool.{Bool, true, false, cond}
-use mathlib.Core.List.{List, [], _∷_}
+use mathlib.Core.Bool.{Bool, true, false, cond, _||_, or-assoc}
+use mathlib.Core.List.{List, [], _∷_, _++_, map}
 use native.Mathlib.Omega.{arith}
 use lib.ListN.{getD}
 use lib.Dec.{ltb, eqb}
@@ -17,7 +17,35 @@ use Rattle.attribute.specs.declared.Reading.{Reading}
 use Rattle.attribute.specs.declared.Reading.the-variants.{Sawp, Rfc}
 use Rattle.attribute.specs.Kinds.{Codes, kindsByCode, kindAmong}
 use Rattle.attribute.specs.Tables.{table}
-use Rattle.attribute.proofs.Tables.{table-entry, past-table, same-table}
+use Rattle.attribute.proofs.Tables.{table-entry, past-table, same-by-list}
+
+-- ---- off the codes of a table
+
+abbrev codesIn : List Row → List ℕ
+codesIn [] = []
+codesIn (r ∷ rs) = r .code ∷ codesIn rs
+
+abbrev codesAmong : List Codes → List ℕ
+codesAmong [] = []
+codesAmong (r ∷ rs) = r .codes ++ codesAmong rs
+
+one-of-append : (c : ℕ) (xs ys : List ℕ) → oneOf c (xs ++ ys) ≡ oneOf c xs || oneOf c ys
+one-of-append c [] ys = refl
+one-of-append c (x ∷ xs) ys = rw (one-of-append c xs ys, or-assoc)
+
+-- a row that isn't the code's is passed
+passed : (here later : Bool) (kind rest : ℕ) → here || later ≡ false → (later ≡ false → rest ≡ unhandled)
+    → cond here kind rest ≡ unhandled
+passed true later kind rest h off = cc
+passed false later kind rest h off = off h
+
+off-rows : (rs : List Row) (c : ℕ) → oneOf c (codesIn rs) ≡ false → kindIn rs c ≡ unhandled
+off-rows [] c h = refl
+off-rows (r ∷ rs) c h = passed (eqb c (r .code)) _ _ _ h (off-rows rs c)
+
+off-codes : (rs : List Codes) (c : ℕ) → oneOf c (codesAmong rs) ≡ false → kindAmong rs c ≡ unhandled
+off-codes [] c h = refl
+off-codes (r ∷ rs) c h = passed (oneOf c (r .codes)) _ _ _ (rw one-of-append at h) (off-codes rs c)
 
 -- ---- past the greatest code
 
@@ -25,62 +53,48 @@ abbrev greatest : List ℕ → ℕ
 greatest [] = 0
 greatest (c ∷ cs) = max c (greatest cs)
 
-abbrev pub greatestIn : List Row → ℕ
-greatestIn [] = 0
-greatestIn (r ∷ rs) = max (r .code) (greatestIn rs)
-
-abbrev greatestAmong : List Codes → ℕ
-greatestAmong [] = 0
-greatestAmong (r ∷ rs) = max (greatest (r .codes)) (greatestAmong rs)
-
 not-listed : (cs : List ℕ) (c : ℕ) → greatest cs < c → oneOf c cs ≡ false
 not-listed [] c h = refl
 not-listed (x ∷ cs) c h = rw (ne-eqb c x (λ e. omega arith)) (not-listed cs c (omega arith))
 
-pub past-rows : (rs : List Row) (c : ℕ) → greatestIn rs < c → kindIn rs c ≡ unhandled
-past-rows [] c h = refl
-past-rows (r ∷ rs) c h = rw (ne-eqb c (r .code) (λ e. omega arith)) (past-rows rs c (omega arith))
-
-past-codes : (rs : List Codes) (c : ℕ) → greatestAmong rs < c → kindAmong rs c ≡ unhandled
-past-codes [] c h = refl
-past-codes (r ∷ rs) c h = rw (not-listed (r .codes) c (omega arith)) (past-codes rs c (omega arith))
-
 -- so the first 512 entries are the table
-entry-of : (rs : List Row) → greatestIn rs < 512 → (c : ℕ) → getD (table (kindIn rs) 512) c unhandled ≡ kindIn rs c
+entry-of : (rs : List Row) → greatest (codesIn rs) < 512 → (c : ℕ) → getD (table (kindIn rs) 512) c unhandled ≡ kindIn rs c
 entry-of rs within c = by (ltb c 512) refl
   where
     by : (b : Bool) → ltb c 512 ≡ b → getD (table (kindIn rs) 512) c unhandled ≡ kindIn rs c
     by true t = table-entry (kindIn rs) 512 c (ltb-true c 512 t)
     by false t =
         let past = ltb-false c 512 t in
-        past-table (kindIn rs) 512 c unhandled past ∙ sym (past-rows rs c (omega arith))
+        past-table (kindIn rs) 512 c unhandled past ∙ sym (off-rows rs c (not-listed (codesIn rs) c (omega arith)))
 
 -- ---- the readings beside one another, and beside document 01
 
 -- document 01's table is the sawp dictionary's
 pub document-kinds : (c : ℕ) → kindIn sawpAvps c ≡ kindAmong kindsByCode c
-document-kinds =
-    same-table (kindIn sawpAvps) (kindAmong kindsByCode) 512
-    refl
-    (λ c h. past-rows sawpAvps c (omega arith) ∙ sym (past-codes kindsByCode c (omega arith)))
+document-kinds c =
+    let same = same-by-list (kindIn sawpAvps) (kindAmong kindsByCode) in
+    same (codesIn sawpAvps) refl c
+    (λ h. same (codesAmong kindsByCode) refl c (λ h'. off-rows sawpAvps c h ∙ sym (off-codes kindsByCode c h')))
 
 -- ---- the groups
 
 abbrev pub groups : List ℕ
 groups = 260 ∷ 279 ∷ 284 ∷ 297 ∷ []
 
-are-groups : (rs : List Row) → greatestIn rs < 512 → table (λ c. eqb (kindIn rs c) grouped) 512 ≡ table (λ c. oneOf c groups) 512
-    → (c : ℕ) → eqb (kindIn rs c) grouped ≡ oneOf c groups
-are-groups rs within same =
-    same-table (λ c. eqb (kindIn rs c) grouped) (λ c. oneOf c groups) 512
-    same
-    (λ c h. rw (past-rows rs c (omega arith), not-listed groups c (omega arith)))
+-- among these codes the table has the groups that are listed
+abbrev GroupsAt : List Row → List ℕ → Type 0
+GroupsAt rs cs = map (λ c. eqb (kindIn rs c) grouped) cs ≡ map (λ c. oneOf c groups) cs
+
+are-groups : (rs : List Row) → GroupsAt rs groups → GroupsAt rs (codesIn rs) → (c : ℕ) → eqb (kindIn rs c) grouped ≡ oneOf c groups
+are-groups rs at-groups at-rows c =
+    let same = same-by-list (λ c. eqb (kindIn rs c) grouped) (λ c. oneOf c groups) in
+    same groups at-groups c (λ h. same (codesIn rs) at-rows c (λ h'. rw (off-rows rs c h', h)))
 
 pub sawp-groups : (c : ℕ) → eqb (kindIn sawpAvps c) grouped ≡ oneOf c groups
-sawp-groups = are-groups sawpAvps (omega arith) refl
+sawp-groups = are-groups sawpAvps refl refl
 
 pub base-groups : (c : ℕ) → eqb (kindIn baseAvps c) grouped ≡ oneOf c groups
-base-groups = are-groups baseAvps (omega arith) refl
+base-groups = are-groups baseAvps refl refl
 
 -- ---- a lent table
 
