@@ -1,6 +1,7 @@
 pub mod Absent
 pub mod Copied
 pub mod Fields
+pub mod LastFirst
 pub mod RecordAs
 pub mod Room
 pub mod Turned
