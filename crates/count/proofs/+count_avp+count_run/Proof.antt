@@ -88,7 +88,7 @@ module _ (t : ℕ) where
   told : (c : count-avp-lts.After-is-grouped (count-avp-calls t) (count-avp-at t) count-avp.Post)
       → let b = c .before .before in c .is-grouped .result ≡ eqb (kindOf (dictionary (b .args .reading)) (bytes b)) grouped
   unfolding kindOf
-  told c = let h = here _ _ (c .before .before .pre .1 .0) in cc
+  told c = let h = here _ _ (c .before .before .pre .1 .0) in rw (h .code-is, h .vendor-is) at (c .is-grouped .ensures)
 
   is-grouped : (e : Group) → kindOf (dictionary (entry e .args .reading)) (bytes (entry e)) ≡ grouped
   is-grouped e = eqb-true _ _ (sym (told (e .before)) ∙ not-false _ (e .if1 .left))
