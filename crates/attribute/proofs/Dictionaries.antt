@@ -4,7 +4,7 @@
 -- Assumes nothing.
 use Prim.Native.Nat.{ℕ, max, _≤_, _<_}
 use mathlib.Core.Path.{_≡_, refl, sym, ap, _∙_}
-use mathlib.Core.Bool.{Bool, true, false, cond, _||_, or-assoc}
+use mathlib.Core.Bool.{Bool, true, false, cond}
 use mathlib.Core.List.{List, [], _∷_, _++_, map}
 use native.Mathlib.Omega.{arith}
 use lib.ListN.{getD}
@@ -12,6 +12,7 @@ use lib.Dec.{ltb, eqb}
 use borrow.Author.Tests.{ne-eqb, ltb-true, ltb-false}
 use Rattle.rfc6733.specs.Value.{oneOf, unhandled, grouped, time}
 use Rattle.rfc6733.specs.Dictionary.{Row, kindIn, baseAvps, sawpAvps, sawp, rfc}
+use Rattle.rfc6733.proofs.Listed.{one-of-append, passed}
 use Rattle.attribute.specs.Attributes.{dictionary, kindTable, kindBy}
 use Rattle.attribute.specs.declared.Reading.{Reading}
 use Rattle.attribute.specs.declared.Reading.the-variants.{Sawp, Rfc}
@@ -29,23 +30,13 @@ abbrev codesAmong : List Codes → List ℕ
 codesAmong [] = []
 codesAmong (r ∷ rs) = r .codes ++ codesAmong rs
 
-one-of-append : (c : ℕ) (xs ys : List ℕ) → oneOf c (xs ++ ys) ≡ oneOf c xs || oneOf c ys
-one-of-append c [] ys = refl
-one-of-append c (x ∷ xs) ys = rw (one-of-append c xs ys, or-assoc)
-
--- a row that isn't the code's is passed
-passed : (here later : Bool) (kind rest : ℕ) → here || later ≡ false → (later ≡ false → rest ≡ unhandled)
-    → cond here kind rest ≡ unhandled
-passed true later kind rest h off = cc
-passed false later kind rest h off = off h
-
 off-rows : (rs : List Row) (c : ℕ) → oneOf c (codesIn rs) ≡ false → kindIn rs c ≡ unhandled
 off-rows [] c h = refl
-off-rows (r ∷ rs) c h = passed (eqb c (r .code)) _ _ _ h (off-rows rs c)
+off-rows (r ∷ rs) c h = passed (eqb c (r .code)) _ _ _ _ h (off-rows rs c)
 
 off-codes : (rs : List Codes) (c : ℕ) → oneOf c (codesAmong rs) ≡ false → kindAmong rs c ≡ unhandled
 off-codes [] c h = refl
-off-codes (r ∷ rs) c h = passed (oneOf c (r .codes)) _ _ _ (rw one-of-append at h) (off-codes rs c)
+off-codes (r ∷ rs) c h = passed (oneOf c (r .codes)) _ _ _ _ (rw one-of-append at h) (off-codes rs c)
 
 -- ---- past the greatest code
 

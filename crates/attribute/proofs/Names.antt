@@ -3,27 +3,28 @@
 -- Assumes nothing.
 use Prim.Native.Nat.{ℕ}
 use mathlib.Core.Path.{_≡_, refl}
+use mathlib.Core.Bool.{false}
 use mathlib.Core.List.{List, [], _∷_}
+use lib.Dec.{eqb}
 use borrow.Author.Tests.{ne-eqb}
+use Rattle.rfc6733.specs.Value.{oneOf}
+use Rattle.rfc6733.proofs.Listed.{passed, Unlisted, unlisted}
 use Rattle.attribute.specs.Attributes.{Name, nameIn, names, attributeOf, attributeIn}
 use Rattle.attribute.specs.declared.Attribute.{Attribute}
 use Rattle.attribute.specs.declared.AttributeCode.the-variants.{Unknown}
 use Rattle.attribute.specs.declared.Reading.the-variants.{Rfc}
 
--- what the default of a match knows: what was known before, and that n is the number of no row
-abbrev pub Unlisted : Type 0 → ℕ → List Name → Type 0
-Unlisted known n [] = known
-Unlisted known n (x ∷ xs) = Unlisted (known × (n ≡ x .number → ⊥)) n xs
+abbrev numbersOf : List Name → List ℕ
+numbersOf [] = []
+numbersOf (x ∷ xs) = x .number ∷ numbersOf xs
 
-unlisted : (known : Type 0) (n : ℕ) (xs : List Name) → Unlisted known n xs → known × (nameIn xs n ≡ Unknown)
-unlisted known n [] k = (k, refl)
-unlisted known n (x ∷ xs) k =
-    let u = unlisted (known × (n ≡ x .number → ⊥)) n xs k in
-    (u .0 .0, rw (ne-eqb n (x .number) (u .0 .1)) (u .1))
+off-names : (xs : List Name) (n : ℕ) → oneOf n (numbersOf xs) ≡ false → nameIn xs n ≡ Unknown
+off-names [] n h = refl
+off-names (x ∷ xs) n h = passed (eqb n (x .number)) _ _ _ _ h (off-names xs n)
 
-pub unknown : (n : ℕ) → Unlisted (Unit {0}) n names → _≡_ {A = Attribute} (record { raw = n; code = Unknown }) (attributeOf n)
+pub unknown : (n : ℕ) → Unlisted (Unit {0}) n (numbersOf names) → _≡_ {A = Attribute} (record { raw = n; code = Unknown }) (attributeOf n)
 unfolding attributeOf
-unknown n k = rw (unlisted (Unit {0}) n names k .1)
+unknown n u = rw (off-names names n (unlisted n (numbersOf names) u))
 
 pub named : {n k : ℕ} → n ≡ k → _≡_ {A = Attribute} (record { raw = n; code = nameIn names k }) (attributeOf n)
 unfolding attributeOf

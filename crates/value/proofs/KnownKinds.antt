@@ -9,9 +9,10 @@ use mathlib.Core.Logic.{inl, inr}
 use native.Mathlib.Omega.{arith}
 use types.Run.{OneOf}
 use lib.Dec.{leb, eqb}
-use borrow.Author.Tests.{ne-eqb, eqb-true, leb-true}
+use borrow.Author.Tests.{eqb-true, leb-true}
 use Rattle.octets.proofs.Runs.{false-true}
 use Rattle.rfc6733.specs.Value.{oneOf, unhandled, time}
+use Rattle.rfc6733.proofs.Listed.{one-of-append, Unlisted, unlisted}
 use Rattle.value.specs.Values.{kinds32, kinds64, known}
 
 -- ---- one of several numbers
@@ -30,27 +31,13 @@ of-one P (x ∷ y ∷ ks) all k (inr h) = of-one P (y ∷ ks) (all .1) k h
 
 -- ---- the number that is left
 
--- what the default of a match knows: what was told before, and that k is none of the numbers listed
-abbrev Unlisted : Type 0 → ℕ → List ℕ → Type 0
-Unlisted before k [] = before
-Unlisted before k (x ∷ xs) = Unlisted (before × (k ≡ x → ⊥)) k xs
-
-only : (k x : ℕ) → oneOf k (x ∷ []) ≡ true → x ≡ k
-only k x = by (eqb k x) (eqb-true k x)
-  where
-    by : (b : Bool) → (b ≡ true → k ≡ x) → b || false ≡ true → x ≡ k
-    by true same h = sym (same refl)
-    by false same h = absurd (false-true h)
-
-unlisted : (before : Type 0) (k : ℕ) (xs : List ℕ) (x : ℕ) → Unlisted before k xs → before × (oneOf k (xs ++ (x ∷ [])) ≡ true → x ≡ k)
-unlisted before k [] x u = (u, only k x)
-unlisted before k (y ∷ ys) x u =
-    let rest = unlisted (before × (k ≡ y → ⊥)) k ys x u in
-    (rest .0 .0, λ h. rest .1 (rw (ne-eqb k y (rest .0 .1)) at h))
-
 -- one of several, and none of the first ones, is the last
 pub last-one : {k : ℕ} (xs : List ℕ) (x : ℕ) → Unlisted (Unit {0}) k xs → oneOf k (xs ++ (x ∷ [])) ≡ true → x ≡ k
-last-one {k} xs x u = unlisted (Unit {0}) k xs x u .1
+last-one {k} xs x u h = only (eqb k x) (eqb-true k x) (rw (one-of-append k xs (x ∷ []), unlisted k xs u) at h)
+  where
+    only : (b : Bool) → (b ≡ true → k ≡ x) → b || false ≡ true → x ≡ k
+    only true same f = sym (same refl)
+    only false same f = absurd (false-true f)
 
 lower : {k n : ℕ} → (k ≡ suc n → ⊥) → k ≤ suc n → k ≤ n
 lower other h = omega arith
