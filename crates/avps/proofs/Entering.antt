@@ -16,6 +16,7 @@ use Rattle.rfc6733.specs.Dictionary.{Dictionary}
 use Rattle.rfc6733.specs.Record.{avps, tiling, errors, groupValue}
 use Rattle.rfc6733.specs.Entered.{valueIn, entered}
 use Rattle.rfc6733.proofs.Tiling.{tiles-any}
+use Rattle.rfc6733.proofs.KindsRead.{Kind}
 use Rattle.attribute.specs.declared.Reading.{Reading}
 use Rattle.attribute.specs.Attributes.{dictionary, kindTable, kindBy}
 use Rattle.attribute.proofs.Dictionaries.{kind-by-table, kind-at-most}
@@ -49,14 +50,14 @@ unfolding readAs
 shown-kind shown = ap (λ (v : rfc.Value). v .kind) (sym (shown .value))
 
 module _ {D : Dictionary} {code vendor : ℕ} {s : List ℕ} {r : Read} (shown : Shows (newValue D (D .kind code vendor) s) s r) where
-  pub a-group : Other (D .asAddress s) → kindOf (r .value) ≡ grouped → Group D code vendor s
+  pub a-group : Kind Other (D .asAddress s) → kindOf (r .value) ≡ grouped → Group D code vendor s
   unfolding newValue valueIn entered groupValue
   a-group h kind = by (eqb (D .kind code vendor) grouped) (tiling s) refl refl
     where
       by : (g t : Bool) → eqb (D .kind code vendor) grouped ≡ g → tiling s ≡ t → Group D code vendor s
       by true true e u = let t = tiles-any D s ∙ u in record { tiles-is = t; entered-is = rw (e, u); value-is = rw (e, t) }
       by true false e u = let k = rw (e, u) at (shown-kind shown ∙ kind) in absurd (omega arith)
-      by false t e u = absurd (eqb-false _ _ (other-read (D .kind code vendor) e s (D .asAddress) h .kind-is) (rw e at (shown-kind shown ∙ kind)))
+      by false t e u = absurd (eqb-false _ _ (other-read (D .kind code vendor) e s (D .asAddress) h .holds) (rw e at (shown-kind shown ∙ kind)))
 
   no-group : (kindOf (r .value) ≡ grouped → ⊥) → NoGroup D code vendor s
   unfolding newValue valueIn entered groupValue

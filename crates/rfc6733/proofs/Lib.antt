@@ -17,3 +17,4 @@ pub mod Decoded
 pub mod Extremal
 pub mod Demand3
 pub mod MarkedMessages
+pub mod KindsRead
