@@ -1,0 +1,140 @@
+-- `read_avp`: an AVP's records are its own and its members' after it (`OwnRecord`).
+-- Assumes nothing.
+use Prim.Native.Nat.{ℕ, _+_, _-_, _≤_}
+use native.Mathlib.Omega.{arith}
+use lib.ListN.{length, take, drop}
+use denote.Ref.{now}
+use borrow.Author.Needs.{needs}
+use borrow.Fn.PlainCycle.{is, and}
+use Rattle.octets.proofs.Numbers.{be-small}
+use Rattle.rfc6733.specs.Record.{recordSize}
+use Rattle.rfc6733.specs.Entered.{entered}
+use Rattle.attribute.specs.Attributes.{dictionary}
+use Rattle.avps.specs.Fill.{Room}
+use Rattle.avps.proofs.OwnRecord.{lentData, Opened, opened, room-for-own, room-for-members, avp-written}
+use Rattle.avp.proofs.AVP.header_size.Reads as header-size
+use Rattle.flags.proofs.join.Reads as join-flags
+use Rattle.record.proofs.Record.put.Reads as put
+use Rattle.avps.proofs.fill.pads.Reads as pads
+use Rattle.avps.proofs.fill.own_errors.Reads as own-errors
+use Rattle.avps.proofs.fill.read_avp.Reads as avp-reads
+use Rattle.avps.proofs.fill.read_value.Reads as value-reads
+use Rattle.avps.proofs.fill.+read_avp+read_run+read_value.Lts-read_avp as avp
+use Rattle.avps.proofs.fill.+read_avp+read_run+read_value.Proof.Measures.{avp-at, value-below}
+
+abbrev pub avp-calls : ℕ → avp.Claims
+avp-calls t = (
+  header-size.Asked,
+  header-size.Learnt,
+  value-below t,
+  value-reads.Post,
+  pads.Asked,
+  pads.Learnt,
+  own-errors.Asked,
+  own-errors.Learnt,
+  join-flags.Asked,
+  join-flags.Learnt,
+  put.Asked,
+  put.Learnt,
+)
+
+module _ (t : ℕ) where
+  -- the entry, from the place where the size of the header is known; and that place, from the later ones
+  abbrev avp-start : avp.After-header-size (avp-calls t) (avp-at t) avp-reads.Post → avp.Start (avp-calls t) (avp-at t) avp-reads.Post
+  avp-start c = c .before .before .before .before
+
+  abbrev avp-from-pads : avp.After-slice-known2 (avp-calls t) (avp-at t) avp-reads.Post → avp.After-header-size (avp-calls t) (avp-at t) avp-reads.Post
+  avp-from-pads c = c .before .before .before .before .before
+
+  abbrev avp-from-join : avp.After-join (avp-calls t) (avp-at t) avp-reads.Post → avp.After-header-size (avp-calls t) (avp-at t) avp-reads.Post
+  avp-from-join c = avp-from-pads (c .before .before .before .before)
+
+  abbrev avp-end-join : avp.After-struct-known2 (avp-calls t) (avp-at t) avp-reads.Post → avp.After-join (avp-calls t) (avp-at t) avp-reads.Post
+  avp-end-join c = c .before .before .before .before .before .before
+
+  -- the AVP's bytes
+  avp-opened : (c : avp.After-header-size (avp-calls t) (avp-at t) avp-reads.Post)
+      → let b = avp-start c in Opened (now (b .args .s)) (b .args .a) (c .header-size .result)
+  avp-opened c = let b = avp-start c in opened (b .pre .1 .0 .0) (b .pre .1 .0 .1) (c .header-size .ensures)
+
+  -- there is room for its own record
+  avp-room : (c : avp.After-header-size (avp-calls t) (avp-at t) avp-reads.Post)
+      → recordSize ≤ length (now (avp-start c .args .store))
+  avp-room c = let b = avp-start c in room-for-own _ (avp-opened c) (b .pre .1 .0 .1) (b .pre .1 .1 .0)
+
+  -- and for its members', whose places and depths fit too
+  avp-inside : (c : avp.After-header-size (avp-calls t) (avp-at t) avp-reads.Post)
+      → let b = avp-start c in
+      let a = b .args .a in
+      let from = c .header-size .result in
+      let body = lentData (now (b .args .s)) a from in
+      let store = now (b .args .store) in
+      Room (entered (dictionary (b .args .reading)) (a .code) (a .«vendor_id») body) (b .args .place + from) (length body) (b .args .depth + 1)
+      (length (take (length store - recordSize) (drop recordSize store)))
+  avp-inside c = let b = avp-start c in room-for-members _ (avp-opened c) (b .pre .1 .0 .1) (now (b .args .store)) (b .pre .1 .1 .0)
+
+  -- ---- its needs
+
+  pub sub-read-value : avp.Need-sub-read-value (avp-calls t) (avp-at t) avp-reads.Post
+  sub-read-value c = omega (arith, avp-opened c)
+
+  pub part-read-value-start : avp.Need-part-read-value-start (avp-calls t) (avp-at t) avp-reads.Post
+  part-read-value-start c = omega (arith, avp-opened c)
+
+  pub part-read-value-end : avp.Need-part-read-value-end (avp-calls t) (avp-at t) avp-reads.Post
+  part-read-value-end c = omega (arith, avp-opened c)
+
+  pub add-read-value : avp.Need-add-read-value (avp-calls t) (avp-at t) avp-reads.Post
+  add-read-value c = omega (arith, avp-inside (c .before))
+
+  pub sub-read-value-2 : avp.Need-sub-read-value-2 (avp-calls t) (avp-at t) avp-reads.Post
+  sub-read-value-2 c = omega (arith, avp-room (c .before))
+
+  pub part-read-value-start-2 : avp.Need-part-read-value-start-2 (avp-calls t) (avp-at t) avp-reads.Post
+  part-read-value-start-2 c = omega (arith, avp-room (c .before))
+
+  pub read-value-requires : avp.Need-read-value-requires (avp-calls t) (avp-at t) avp-reads.Post
+  read-value-requires c κs = let h = c .before .before in (omega (arith, avp-start h .pre), (avp-inside h, avp-start h .pre .1 .1 .1))
+
+  pub sub-pads : avp.Need-sub-pads (avp-calls t) (avp-at t) avp-reads.Post
+  sub-pads c = omega (arith, avp-opened (avp-from-pads c))
+
+  pub part-pads-start : avp.Need-part-pads-start (avp-calls t) (avp-at t) avp-reads.Post
+  part-pads-start c = omega (arith, avp-opened (avp-from-pads c))
+
+  pub pads-requires : avp.Need-pads-requires (avp-calls t) (avp-at t) avp-reads.Post
+  pads-requires c κs = omega (arith, avp-opened (avp-from-pads (c .before)))
+
+  pub cast-t27 : avp.Need-cast-t27 (avp-calls t) (avp-at t) avp-reads.Post
+  cast-t27 c =
+      let h = avp-from-join c in
+      let k = h .before .before in
+      omega (arith, avp-opened h .fields .length-is, be-small 3 (now (avp-start h .args .s)) 5 (λ i. omega (arith, k .shared-slice-known2 .given i)))
+
+  pub add-t19 : avp.Need-add-t19 (avp-calls t) (avp-at t) avp-reads.Post
+  add-t19 c = omega (arith, avp-inside (avp-from-join c))
+
+  pub cast-t28 : avp.Need-cast-t28 (avp-calls t) (avp-at t) avp-reads.Post
+  cast-t28 c = omega arith
+
+  pub cast-t25 : avp.Need-cast-t25 (avp-calls t) (avp-at t) avp-reads.Post
+  cast-t25 c = omega arith
+
+  pub sub-t29 : avp.Need-sub-t29 (avp-calls t) (avp-at t) avp-reads.Post
+  sub-t29 c = omega (arith, avp-opened (avp-from-join (c .before)))
+
+  pub cast-t30 : avp.Need-cast-t30 (avp-calls t) (avp-at t) avp-reads.Post
+  cast-t30 c = omega (arith, avp-opened (avp-from-join (c .before)))
+
+  pub returns : avp.Need-returns (avp-calls t) (avp-at t) avp-reads.Post
+  returns c =
+      let j = avp-end-join c in
+      let o = j .before in
+      let p = o .before in
+      let h = avp-from-join j in
+      let b = avp-start h in
+      avp-written _ (avp-opened h) (b .pre .1 .0 .1) (b .pre .1 .1 .0) (p .before .before .before .before .read-value .ensures) (p .pads .ensures)
+      (o .own-errors .ensures) (j .join .ensures) (c .before .before .before .put .ensures .1)
+
+  pub add-t19-2 : avp.Need-add-t19-2 (avp-calls t) (avp-at t) avp-reads.Post
+  add-t19-2 c = let b = avp-start (avp-from-join (avp-end-join c)) in omega (arith, returns c .count-is, b .pre .1 .1 .0, b .good)

@@ -1,0 +1,66 @@
+-- `read_value`: the data of an AVP are entered where their value is Grouped (`Entering`).
+-- Assumes nothing.
+use Prim.Native.Nat.{ℕ}
+use mathlib.Core.Path.{sym, _∙_}
+use native.Mathlib.Omega.{arith}
+use denote.Ref.{now}
+use borrow.Author.Needs.{needs}
+use borrow.Fn.PlainCycle.{is}
+use Rattle.rfc6733.specs.Entered.{entered}
+use Rattle.attribute.specs.Attributes.{dictionary}
+use Rattle.value.specs.Values.{Shows, newValue}
+use Rattle.avps.proofs.OtherKinds.{other-address}
+use Rattle.avps.proofs.Entering.{kind-found, Group, a-group, no-members, members-written}
+use Rattle.attribute.proofs.kind.Reads as table-kind
+use Rattle.value.proofs.Value.new.Reads as new
+use Rattle.value.proofs.Value.kind.Reads as kind
+use Rattle.value.proofs.Value.number.Reads as number
+use Rattle.avps.proofs.fill.read_run.Reads as run-reads
+use Rattle.avps.proofs.fill.read_value.Reads as value-reads
+use Rattle.avps.proofs.fill.+read_avp+read_run+read_value.Lts-read_value as value
+use Rattle.avps.proofs.fill.+read_avp+read_run+read_value.Proof.Measures.{run-below, value-at}
+
+abbrev pub value-calls : ℕ → value.Claims
+value-calls t = (table-kind.Asked, table-kind.Learnt, new.Asked, new.Learnt, kind.Asked, kind.Learnt, run-below t, run-reads.Post, number.Asked, number.Learnt)
+
+module _ (t : ℕ) where
+  -- the value is that of the dictionary's kind
+  value-shown : (c : value.After-kind2 (value-calls t) (value-at t) value-reads.Post)
+      → let b = c .before .before .before .before .before .before in
+      let D = dictionary (b .args .reading) in
+      Shows (newValue D (D .kind (b .args .code) (b .args .vendor)) (now (b .args .«data»))) (now (b .args .«data»)) (c .before .new .result)
+  value-shown c =
+      let b = c .before .before .before .before .before .before in
+      let a = b .args in
+      let k = c .before .before .kind in
+      rw (kind-found (a .reading) (now (a .kinds)) (a .code) (a .vendor) (k .result) (b .pre .1 .1) (k .ensures)) at (c .before .new .ensures)
+
+  -- a value that is Grouped is entered
+  value-group : (c : value.Then1 (value-calls t) (value-at t) value-reads.Post)
+      → let b = c .before .before .before .before .before .before .before in
+      Group (dictionary (b .args .reading)) (b .args .code) (b .args .vendor) (now (b .args .«data»))
+  value-group c =
+      let k = c .before in
+      let b = k .before .before .before .before .before .before in
+      a-group (value-shown k) (other-address (b .args .reading) _) (sym (k .kind2 .ensures) ∙ c .if1 .taken)
+
+  -- ---- its needs
+
+  pub add-read-run : value.Need-add-read-run (value-calls t) (value-at t) value-reads.Post
+  add-read-run c = omega (arith, c .before .before .before .before .before .before .before .pre .1 .0)
+
+  pub read-run-requires : value.Need-read-run-requires (value-calls t) (value-at t) value-reads.Post
+  read-run-requires c κs =
+      let g = value-group (c .before) in
+      let b = c .before .before .before .before .before .before .before .before in
+      (omega (arith, b .pre), (g .tiles-is, (rw (g .entered-is) at (b .pre .1 .0), b .pre .1 .1)))
+
+  pub returns : value.Need-returns (value-calls t) (value-at t) value-reads.Post
+  returns c =
+      let k = c .before .before .before .before in
+      members-written (value-group k) (k .if1 .taken) (c .before .before .read-run .ensures)
+
+  pub returns-2 : value.Need-returns-2 (value-calls t) (value-at t) value-reads.Post
+  returns-2 c =
+      let k = c .before .before in
+      no-members (value-shown k) (λ e. c .before .if1 .left (k .kind2 .ensures ∙ e)) (k .kind2 .ensures) (c .number .ensures)
