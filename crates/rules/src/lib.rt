@@ -1,5 +1,5 @@
 // The rules of a table (document 01, "Numbers returned"): which record is the first to break one.
-// This crate knows how many bytes there are to point into, none of them, and writes nothing.
+// This crate looks at records alone: it knows how many bytes their places may point into, and none of those bytes.
 use attribute::kinds::GROUPED;
 use attribute::kinds::TIME;
 use avp::AVP;

@@ -18,7 +18,6 @@ use Rattle.avps.proofs.fill.+read_avp+read_run+read_value.Proof.Avp as 
 use Rattle.avps.proofs.fill.+read_avp+read_run+read_value.Proof.Avp.{avp-calls}
 use Rattle.avps.proofs.fill.+read_avp+read_run+read_value.Proof.Value as of-value
 use Rattle.avps.proofs.fill.+read_avp+read_run+read_value.Proof.Value.{value-calls}
-
 mod Measures
 mod Run
 mod Avp
