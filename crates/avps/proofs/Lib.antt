@@ -1,9 +1,9 @@
-pub mod OwnBytes
-pub mod Filling
-pub mod OwnRecord
-pub mod OtherKinds
-pub mod Entering
-pub mod Clearing
+mod OwnBytes
+mod Filling
+mod OwnRecord
+mod OtherKinds
+mod Entering
+mod Clearing
 pub mod AnswerOf
-pub mod Answered
+mod Answered
 pub mod Told

@@ -13,6 +13,8 @@ use Rattle.octets.proofs.to_be_u64.Reads as to-be-u64
 use Rattle.rfc3629.proofs.is_utf8.Reads as is-utf8
 use Rattle.flags.proofs.raised.Reads as raised
 use Rattle.flags.proofs.join.Reads as join
+use Rattle.signed.proofs.signed_enumerated.Reads as signed-enumerated
+use Rattle.signed.proofs.unix_seconds.Reads as unix-seconds
 use Rattle.attribute.proofs.Attribute.new.Reads as attribute-new
 use Rattle.attribute.proofs.Attribute.read.Reads as attribute-read
 use Rattle.attribute.proofs.kind_table.Reads as kind-table
@@ -40,8 +42,6 @@ use Rattle.record.proofs.Record.get.Reads as record-get
 use Rattle.value.proofs.Value.new.Reads as value-new
 use Rattle.value.proofs.Value.kind.Reads as value-kind
 use Rattle.value.proofs.Value.number.Reads as value-number
-use Rattle.value.proofs.signed_enumerated.Reads as signed-enumerated
-use Rattle.value.proofs.unix_seconds.Reads as unix-seconds
 use Rattle.count.proofs.count_run.Reads as count-run
 use Rattle.avps.proofs.parse_avps.Reads as parse-avps
 use Rattle.diameter.proofs.parse.Reads as parse
@@ -104,6 +104,14 @@ raised-one κs a r r′ s p q = p ∙ sym q
 
 join-one : Single join.Post
 join-one κs a r r′ s p q = p ∙ sym q
+
+-- ---- signed
+
+signed-enumerated-one : Single signed-enumerated.Post
+signed-enumerated-one κs a r r′ s p q = p ∙ sym q
+
+unix-seconds-one : Single unix-seconds.Post
+unix-seconds-one κs a r r′ s p q = p ∙ sym q
 
 -- ---- attribute
 
@@ -197,12 +205,6 @@ value-kind-one κs a r r′ s p q = p ∙ sym q
 
 value-number-one : Single value-number.Post
 value-number-one κs a r r′ s p q = p ∙ sym q
-
-signed-enumerated-one : Single signed-enumerated.Post
-signed-enumerated-one κs a r r′ s p q = p ∙ sym q
-
-unix-seconds-one : Single unix-seconds.Post
-unix-seconds-one κs a r r′ s p q = p ∙ sym q
 
 -- ---- count
 

@@ -227,5 +227,5 @@ pub extern "C" fn tandrekily_is_utf8(text: &[u8]) -> bool
 pub extern "C" fn tandrekily_unix_seconds(time: u32) -> i64
     ensures { λ r. ⌜ r ≡ unixSeconds time ⌝ }
 {
-    value::unix_seconds(time)
+    signed::unix_seconds(time)
 }

@@ -3,4 +3,3 @@ pub mod KnownKinds
 pub mod NewValue
 pub mod ReadAs
 pub mod Shown
-pub mod Signed

@@ -2,9 +2,9 @@
 -- Assumes nothing.
 use borrow.Author.Needs.{needs}
 use native.Mathlib.Omega.{arith}
-use Rattle.value.proofs.Signed.{difference-fits, lower-half, upper-half}
-use Rattle.value.proofs.signed_enumerated.Statement.{statement}
-use Rattle.value.proofs.signed_enumerated.Tie as tie
+use Rattle.signed.proofs.Differences.{difference-fits, lower-half, upper-half}
+use Rattle.signed.proofs.signed_enumerated.Statement.{statement}
+use Rattle.signed.proofs.signed_enumerated.Tie as tie
 
 returns : tie.Need-returns
 returns c = lower-half _ (omega arith) (omega arith)

@@ -3,9 +3,9 @@
 use borrow.Author.Needs.{needs}
 use native.Mathlib.Omega.{arith}
 use Rattle.rfc6733.specs.Signed.{unixSeconds}
-use Rattle.value.proofs.Signed.{difference-fits, difference-is}
-use Rattle.value.proofs.unix_seconds.Statement.{statement}
-use Rattle.value.proofs.unix_seconds.Tie as tie
+use Rattle.signed.proofs.Differences.{difference-fits, difference-is}
+use Rattle.signed.proofs.unix_seconds.Statement.{statement}
+use Rattle.signed.proofs.unix_seconds.Tie as tie
 
 sub-result : tie.Need-sub-result
 sub-result c = difference-fits (c .args .time) (omega arith) (omega arith)
