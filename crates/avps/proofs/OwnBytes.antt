@@ -15,8 +15,8 @@ use Rattle.rfc6733.proofs.Complete.{complete-whole}
 use Rattle.rfc6733.proofs.Items.{item-same}
 use Rattle.rfc6733.proofs.Alone.{Joined, joined, item-exact}
 use Rattle.avp.specs.declared.AVP.{AVP}
-use Rattle.avp.specs.Front.{avpOf}
-use Rattle.avp.proofs.Fronts.{Turn, next-is, own-is}
+use Rattle.front.specs.Front.{avpOf}
+use Rattle.front.proofs.Fronts.{Turn, next-is, own-is}
 
 -- own is the bytes of the AVP a, which stands at the place at of s
 pub record OwnBytes (D : Dictionary) (s : List ℕ) (at : ℕ) (a : AVP) (own : List ℕ) : Type 0 where

@@ -29,8 +29,8 @@ use Rattle.rfc6733.proofs.Layouts.{record-length}
 use Rattle.rfc6733.proofs.Alone.{exact-tree}
 use Rattle.rfc6733.proofs.Entered.{Made, made}
 use Rattle.avp.specs.declared.AVP.{AVP}
-use Rattle.avp.specs.Front.{avpOf}
-use Rattle.avp.proofs.Fronts.{Here, here}
+use Rattle.front.specs.Front.{avpOf}
+use Rattle.front.proofs.Fronts.{Here, here}
 use Rattle.record.specs.declared.Record.{Record}
 use Rattle.record.specs.Stored.{recordAs, put}
 use Rattle.avps.specs.declared.fill.Valued.{Valued}

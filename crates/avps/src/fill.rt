@@ -2,8 +2,8 @@
 use attribute::Reading;
 use attribute::kinds::GROUPED;
 use avp::AVP;
-use avp::Complete;
 use flags::ErrorFlags;
+use front::Next;
 use record::Record;
 use value::Value;
 ghost use mathlib.Core.Path.{_≡_};
@@ -17,7 +17,7 @@ ghost use Rattle.rfc6733.specs.Flags.{join, flag, nonZeroReserved, nonZeroPaddi
 ghost use Rattle.rfc6733.specs.Avp.{Exact, avpReserved};
 ghost use Rattle.rfc6733.specs.Record.{avps};
 ghost use Rattle.rfc6733.specs.Entered.{entered};
-ghost use Rattle.avp.specs.Front.{avpOf};
+ghost use Rattle.front.specs.Front.{avpOf};
 ghost use Rattle.attribute.specs.Attributes.{dictionary, kindTable};
 ghost use Rattle.avps.specs.Fill.{Room, Written, Members};
 
@@ -81,7 +81,7 @@ pub(super) fn read_run(
     let mut n: usize = 0;
     let mut errors: u8 = 0;
     while at < s.len() {
-        let Complete::Whole(a) = AVP::complete(&s[at..]) else {
+        let Next::Whole(a) = front::complete(&s[at..]) else {
             return Ran { records: n, errors };
         };
         let next = at + a.size;

@@ -67,7 +67,7 @@ pub fn parse_avps(reading: Reading, limit: usize, s: &[u8], place: u32, store: &
     } = count::count_run(reading, s, limit)
     else {
         // NotTiled comes first
-        if !avp::tiles(s) {
+        if !front::tiles(s) {
             return Filled::NotTiled;
         }
         return Filled::TooDeep;

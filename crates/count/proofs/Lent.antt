@@ -15,8 +15,8 @@ use Rattle.rfc6733.proofs.Complete.{Whole, sizes, complete-whole}
 use Rattle.rfc6733.proofs.Items.{avpsBy, item-same}
 use Rattle.rfc6733.proofs.Alone.{Joined, joined, item-exact}
 use Rattle.avp.specs.declared.AVP.{AVP}
-use Rattle.avp.specs.Front.{avpOf}
-use Rattle.avp.proofs.Fronts.{Turn, next-is, own-is, Here}
+use Rattle.front.specs.Front.{avpOf}
+use Rattle.front.proofs.Fronts.{Turn, next-is, own-is, Here}
 
 -- as `&s[from..to]` lends it
 abbrev pub lent : List ℕ → ℕ → ℕ → List ℕ

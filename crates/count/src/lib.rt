@@ -2,13 +2,13 @@
 // This crate looks at headers and never at values, and writes nothing.
 use attribute::Reading;
 use avp::AVP;
-use avp::Complete;
+use front::Next;
 ghost use mathlib.Core.Path.{_≡_};
 ghost use Prim.Native.Nat.{_<_};
 ghost use Rattle.octets.specs.Run.{tree};
 ghost use Rattle.rfc6733.specs.Record.{avps};
 ghost use Rattle.rfc6733.specs.Avp.{Exact};
-ghost use Rattle.avp.specs.Front.{avpOf};
+ghost use Rattle.front.specs.Front.{avpOf};
 ghost use Rattle.attribute.specs.Attributes.{dictionary};
 ghost use Rattle.count.specs.Counts.{countOf};
 
@@ -33,7 +33,7 @@ pub fn count_run(reading: Reading, s: &[u8], left: usize) -> Counted
         if left == 0 {
             return Counted::TooDeep;
         }
-        let Complete::Whole(a) = AVP::complete(&s[at..]) else {
+        let Next::Whole(a) = front::complete(&s[at..]) else {
             return Counted::Counts {
                 tiles: false,
                 records,

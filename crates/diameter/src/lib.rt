@@ -1,10 +1,9 @@
 // Decoding: a message or one AVP, from a lent slice to a header, records in a lent store, error flags, counts and a length.
 // The header and the limit are tested here; `avps` reads the AVPs, and writes nothing until everything is known to fit.
 use attribute::Reading;
-use avp::AVP;
-use avp::Front;
 use avps::Counts;
 use avps::Filled;
+use front::Front;
 use header::Header;
 use header::Parsed;
 ghost use mathlib.Core.Path.{_≡_};
@@ -136,7 +135,7 @@ pub fn parse_avp(reading: Reading, limit: usize, input: &[u8], store: &mut [u8])
     if MOST_DEPTH < limit {
         return DecodedAvp::BadDepth;
     }
-    match AVP::head(input) {
+    match front::head(input) {
         Front::Whole(a) => parse_one(reading, limit, a.size, input, store),
         Front::Incomplete(n) => DecodedAvp::Incomplete(n),
         Front::BadLength => DecodedAvp::BadLength,

@@ -28,15 +28,17 @@ use Rattle.header.proofs.Header.is_potentially_retransmitted.Reads as is-potent
 use Rattle.header.proofs.Header.get_reserved.Reads as get-reserved
 use Rattle.header.proofs.Header.length.Reads as header-length
 use Rattle.header.proofs.Header.parse.Reads as header-parse
+use Rattle.avp.proofs.AVP.vendor_specific_flag.Reads as vendor-specific-flag
 use Rattle.avp.proofs.AVP.is_vendor_specific.Reads as is-vendor-specific
 use Rattle.avp.proofs.AVP.is_mandatory.Reads as is-mandatory
 use Rattle.avp.proofs.AVP.is_protected.Reads as is-protected
 use Rattle.avp.proofs.AVP.get_reserved.Reads as avp-get-reserved
+use Rattle.avp.proofs.AVP.header_size_of.Reads as header-size-of
 use Rattle.avp.proofs.AVP.header_size.Reads as header-size
 use Rattle.avp.proofs.AVP.padding.Reads as padding
-use Rattle.avp.proofs.AVP.complete.Reads as complete
-use Rattle.avp.proofs.AVP.head.Reads as head
-use Rattle.avp.proofs.tiles.Reads as tiles
+use Rattle.front.proofs.complete.Reads as complete
+use Rattle.front.proofs.head.Reads as head
+use Rattle.front.proofs.tiles.Reads as tiles
 use Rattle.record.proofs.Record.put.Reads as record-put
 use Rattle.record.proofs.Record.get.Reads as record-get
 use Rattle.value.proofs.Value.new.Reads as value-new
@@ -57,7 +59,7 @@ use Rattle.tandrekily.proofs.tandrekily_write.Reads as tandrekily-write
 use Rattle.tandrekily.proofs.tandrekily_is_utf8.Reads as tandrekily-is-utf8
 use Rattle.tandrekily.proofs.tandrekily_unix_seconds.Reads as tandrekily-unix-seconds
 use Rattle.header.proofs.AnswerOf as header-answers
-use Rattle.avp.proofs.AnswerOf as avp-answers
+use Rattle.front.proofs.AnswerOf as front-answers
 use Rattle.record.proofs.RecordAs.{record-as-injective}
 use Rattle.value.proofs.ReadAs.{one-value}
 use Rattle.avps.proofs.AnswerOf as avps-answers
@@ -158,6 +160,9 @@ header-parse-one κs a r r′ s p q = header-answers.answer-of-injective r r′ 
 
 -- ---- avp
 
+vendor-specific-flag-one : Single vendor-specific-flag.Post
+vendor-specific-flag-one κs a r r′ s p q = p ∙ sym q
+
 is-vendor-specific-one : Single is-vendor-specific.Post
 is-vendor-specific-one κs a r r′ s p q = p ∙ sym q
 
@@ -170,17 +175,22 @@ is-protected-one κs a r r′ s p q = p ∙ sym q
 avp-get-reserved-one : Single avp-get-reserved.Post
 avp-get-reserved-one κs a r r′ s p q = p ∙ sym q
 
+header-size-of-one : Single header-size-of.Post
+header-size-of-one κs a r r′ s p q = p ∙ sym q
+
 header-size-one : Single header-size.Post
 header-size-one κs a r r′ s p q = p ∙ sym q
 
 padding-one : Single padding.Post
 padding-one κs a r r′ s p q = p ∙ sym q
 
+-- ---- front
+
 complete-one : Single complete.Post
 complete-one κs a r r′ s p q = p ∙ sym q
 
 head-one : Single head.Post
-head-one κs a r r′ s p q = avp-answers.answer-of-injective r r′ (p ∙ sym q)
+head-one κs a r r′ s p q = front-answers.answer-of-injective r r′ (p ∙ sym q)
 
 tiles-one : Single tiles.Post
 tiles-one κs a r r′ s p q = p ∙ sym q

@@ -228,7 +228,7 @@ impl Value {
             OCTET_STRING => Read::good(Value::OctetString),
             INTEGER32 | UNSIGNED32 | FLOAT32 | ENUMERATED | TIME => Read::fixed_32(kind, data),
             INTEGER64 | UNSIGNED64 | FLOAT64 => Read::fixed_64(kind, data),
-            GROUPED => Read::tested(avp::tiles(data), Value::Grouped),
+            GROUPED => Read::tested(front::tiles(data), Value::Grouped),
             UTF8_STRING => Read::tested(rfc3629::is_utf8(data), Value::UTF8String),
             DIAMETER_IDENTITY => Read::tested(rfc3629::is_utf8(data), Value::DiameterIdentity),
             DIAMETER_URI => Read::tested(rfc3629::is_utf8(data), Value::DiameterURI),

@@ -23,13 +23,13 @@ use Rattle.rfc6733.specs.Record.{kindOf, avps}
 use Rattle.rfc6733.proofs.Items.{sound}
 use Rattle.rfc6733.proofs.Alone.{some-tried}
 use Rattle.attribute.specs.Attributes.{dictionary}
-use Rattle.avp.proofs.Fronts.{Turn, turn, stuck, here}
+use Rattle.front.proofs.Fronts.{Turn, turn, stuck, here}
 use Rattle.count.specs.declared.Counted.the-variants.{Counts}
 use Rattle.count.specs.Counts.{countOf}
 use Rattle.count.proofs.Counts.{Known, was-deep, was-counts, within, Passed, none-passed, one-passed, then-deep, then-ends, one-plain, one-deep, one-group}
 use Rattle.count.proofs.Lent.{Own, own, Inside, inside}
 use Rattle.attribute.proofs.is_grouped.Reads as is-grouped-reads
-use Rattle.avp.proofs.AVP.complete.Reads as complete-reads
+use Rattle.front.proofs.complete.Reads as complete-reads
 use Rattle.avp.proofs.AVP.header_size.Reads as header-size-reads
 use Rattle.count.proofs.count_avp.Reads as count-avp
 use Rattle.count.proofs.count_avp.Kinds as count-avp-kinds

@@ -11,8 +11,8 @@ use Rattle.rfc6733.specs.Answer.{refused, incomplete, badLength}
 use Rattle.rfc6733.specs.Decoder.{capacity, avpAlone, stored}
 use Rattle.rfc6733.proofs.Decoded.{alone-limit-under, alone-limit-over, front-refused}
 use Rattle.attribute.specs.Attributes.{dictionary}
-use Rattle.avp.specs.Front as front
-use Rattle.avp.proofs.Fronts.{was-accepted, here}
+use Rattle.front.specs.Front as front
+use Rattle.front.proofs.Fronts.{was-accepted, here}
 use Rattle.diameter.specs.Answers.{avpAnswerOf}
 use Rattle.diameter.proofs.parse_avp.Statement.{statement}
 use Rattle.diameter.proofs.parse_avp.Tie as tie

@@ -12,10 +12,10 @@ use Rattle.octets.specs.Run.{tree}
 use Rattle.rfc6733.specs.Flags.{join}
 use Rattle.rfc6733.specs.Record.{recordSize, avps}
 use Rattle.attribute.specs.Attributes.{dictionary}
-use Rattle.avp.proofs.Fronts.{Turn, turn, stuck}
+use Rattle.front.proofs.Fronts.{Turn, turn, stuck}
 use Rattle.avps.proofs.OwnBytes.{OwnBytes, own-bytes}
 use Rattle.avps.proofs.Filling.{Filling, nothing-filled, never-stuck, all-filled, room-for-one, one-filled}
-use Rattle.avp.proofs.AVP.complete.Reads as complete
+use Rattle.front.proofs.complete.Reads as complete
 use Rattle.flags.proofs.join.Reads as join-flags
 use Rattle.avps.proofs.fill.read_run.Reads as run-reads
 use Rattle.avps.proofs.fill.read_avp.Reads as avp-reads

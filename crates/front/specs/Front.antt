@@ -5,11 +5,11 @@ use mathlib.Core.Bool.{cond}
 use mathlib.Core.List.{List}
 use Rattle.rfc6733.specs.Answer.{Answer, accepted, refused, answer, incomplete, badLength}
 use Rattle.rfc6733.specs.Avp as rfc
 use Rattle.avp.specs.declared.AVP.{AVP}
-use Rattle.avp.specs.declared.Complete.{Complete}
-use Rattle.avp.specs.declared.Complete.the-variants as complete
-use Rattle.avp.specs.declared.Front.{Front}
-use Rattle.avp.specs.declared.Front.the-variants.{Whole, Incomplete, BadLength}
+use Rattle.front.specs.declared.Next.{Next}
+use Rattle.front.specs.declared.Next.the-variants as next
+use Rattle.front.specs.declared.Front.{Front}
+use Rattle.front.specs.declared.Front.the-variants.{Whole, Incomplete, BadLength}
 
 -- the fields of the AVP at the front
 unfoldable pub avpOf : List ℕ → AVP
@@ -23,8 +23,8 @@ avpOf s =
     }
 
 -- the AVP at the front, if it is complete
-unfoldable pub completeOf : List ℕ → Complete
-completeOf s = cond (rfc.complete s) (complete.Whole (avpOf s)) complete.Broken
+unfoldable pub completeOf : List ℕ → Next
+completeOf s = cond (rfc.complete s) (next.Whole (avpOf s)) next.Broken
 
 unfoldable pub answerOf : Front → Answer AVP
 answerOf (Whole a) = accepted a

@@ -14,10 +14,10 @@ use Rattle.rfc6733.specs.Avp.{flags, avpLength, headSize, avpSize, avpRefusals,
 use Rattle.rfc6733.proofs.Answers.{accepts}
 use Rattle.rfc6733.proofs.Complete as rfc
 use Rattle.rfc6733.proofs.Complete.{complete-whole, whole-complete}
 use Rattle.avp.specs.declared.AVP.{AVP}
-use Rattle.avp.specs.declared.Complete.the-variants as found
-use Rattle.avp.specs.declared.Front.the-variants.{Whole, Incomplete, BadLength}
-use Rattle.avp.specs.Front.{avpOf, completeOf, answerOf, frontOf}
+use Rattle.front.specs.declared.Next.the-variants as found
+use Rattle.front.specs.declared.Front.the-variants.{Whole, Incomplete, BadLength}
+use Rattle.front.specs.Front.{avpOf, completeOf, answerOf, frontOf}
 
 module _ (s : List ℕ) where
   pub not-complete : (rfc.Whole s → ⊥) → complete s ≡ false

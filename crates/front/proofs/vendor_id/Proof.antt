@@ -7,9 +7,9 @@ use borrow.Author.Needs.{needs}
 use Rattle.octets.proofs.Numbers.{read-at}
 use Rattle.rfc6733.specs.Avp.{flags}
 use Rattle.rfc6733.proofs.Complete.{head}
-use Rattle.avp.proofs.Fields.{Vendored, with-vendor, without-vendor}
-use Rattle.avp.proofs.AVP.vendor_id.Statement.{statement}
-use Rattle.avp.proofs.AVP.vendor_id.Tie as tie
+use Rattle.front.proofs.Fields.{Vendored, with-vendor, without-vendor}
+use Rattle.front.proofs.vendor_id.Statement.{statement}
+use Rattle.front.proofs.vendor_id.Tie as tie
 
 vendor-there : (c : tie.Then1) → Vendored (now (c .before .before .before .before .args .s))
 vendor-there c = with-vendor _ (sym (c .before .vendor-specific-flag .ensures) ∙ c .if1 .taken)

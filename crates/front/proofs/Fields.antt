@@ -11,8 +11,8 @@ use Rattle.octets.proofs.Numbers.{bytes, read-at, one-byte}
 use Rattle.rfc6733.specs.Flags.{bit}
 use Rattle.rfc6733.specs.Avp.{flags, avpLength, vendorBit, headSize, vendor, dataSize, padding, avpSize}
 use Rattle.rfc6733.proofs.Complete.{Whole, sizes}
 use Rattle.avp.specs.declared.AVP.{AVP}
-use Rattle.avp.specs.Front.{avpOf}
+use Rattle.front.specs.Front.{avpOf}
 
 module _ (s : List ℕ) where
   -- l is the length that the AVP states, and h its header's size

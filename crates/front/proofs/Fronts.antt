@@ -15,13 +15,13 @@ use Rattle.rfc6733.proofs.Answers.{passed}
 use Rattle.rfc6733.proofs.Complete as rfc
 use Rattle.rfc6733.proofs.Complete.{head, sizes, complete-whole}
 use Rattle.rfc6733.proofs.Items.{avpsBy}
 use Rattle.avp.specs.declared.AVP.{AVP}
-use Rattle.avp.specs.declared.Front.the-variants as front
-use Rattle.avp.specs.declared.Complete.{Complete}
-use Rattle.avp.specs.declared.Complete.the-variants.{Whole, Broken}
-use Rattle.avp.specs.Front.{avpOf, completeOf, answerOf, frontOf}
+use Rattle.front.specs.declared.Front.the-variants as front
+use Rattle.front.specs.declared.Next.{Next}
+use Rattle.front.specs.declared.Next.the-variants.{Whole, Broken}
+use Rattle.front.specs.Front.{avpOf, completeOf, answerOf, frontOf}
 
-abbrev Was : Complete → List ℕ → Type 0
+abbrev Was : Next → List ℕ → Type 0
 Was (Whole a) s = (complete s ≡ true) × (a ≡ avpOf s)
 Was Broken s = complete s ≡ false
 
@@ -34,10 +34,10 @@ was s = by (complete s) refl
     by false t = t
 
 pub was-whole : (s : List ℕ) (a : AVP) → Whole a ≡ completeOf s → (complete s ≡ true) × (a ≡ avpOf s)
-was-whole s a e = subst (λ (r : Complete). Was r s) (sym e) (was s)
+was-whole s a e = subst (λ (r : Next). Was r s) (sym e) (was s)
 
 pub was-broken : (s : List ℕ) → Broken ≡ completeOf s → complete s ≡ false
-was-broken s e = subst (λ (r : Complete). Was r s) (sym e) (was s)
+was-broken s e = subst (λ (r : Next). Was r s) (sym e) (was s)
 
 -- an AVP that `AVP::head` accepts is complete too
 pub was-accepted : (s : List ℕ) (a : AVP) → answerOf (front.Whole a) ≡ frontOf s → (complete s ≡ true) × (a ≡ avpOf s)

@@ -10,9 +10,9 @@ use denote.Ref.{now}
 use borrow.Author.Needs.{needs}
 use Rattle.rfc6733.specs.Record.{tiling}
 use Rattle.rfc6733.proofs.Tiling.{tiling-none, tiling-broken, tiling-more}
-use Rattle.avp.proofs.Fronts.{Turn, turn, next-is, stuck}
-use Rattle.avp.proofs.tiles.Statement.{statement}
-use Rattle.avp.proofs.tiles.Tie as tie
+use Rattle.front.proofs.Fronts.{Turn, turn, next-is, stuck}
+use Rattle.front.proofs.tiles.Statement.{statement}
+use Rattle.front.proofs.tiles.Tie as tie
 
 abbrev Inv-loop : tie.InvT-loop
 Inv-loop s at₀ at = (at ≤ length s) × (tiling (drop at s) ≡ tiling s)

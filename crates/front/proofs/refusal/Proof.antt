@@ -10,10 +10,10 @@ use lib.ListN.{length}
 use borrow.Author.Needs.{needs}
 use Rattle.octets.proofs.Numbers.{read-at}
 use Rattle.rfc6733.specs.Avp.{avpLength, avpSize}
-use Rattle.avp.proofs.Fields.{Stated, stated, Padded, padded}
-use Rattle.avp.proofs.Refusals.{no-room, under-four, at-four, under-eight, length-under-eight, cut-off, length-under-header, padding-absent}
-use Rattle.avp.proofs.AVP.refusal.Statement.{statement}
-use Rattle.avp.proofs.AVP.refusal.Tie as tie
+use Rattle.front.proofs.Fields.{Stated, stated, Padded, padded}
+use Rattle.front.proofs.Refusals.{no-room, under-four, at-four, under-eight, length-under-eight, cut-off, length-under-header, padding-absent}
+use Rattle.front.proofs.refusal.Statement.{statement}
+use Rattle.front.proofs.refusal.Tie as tie
 
 abbrev input : tie.After-be-u24 → List ℕ
 input c = now (c .before .before .before .before .before .before .before .before .args .s)

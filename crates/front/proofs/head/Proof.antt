@@ -3,10 +3,10 @@
 -- Assumes nothing.
 use mathlib.Core.Path.{sym, _∙_}
 use borrow.Author.Needs.{needs}
-use Rattle.avp.proofs.Fronts.{was-whole, was-broken}
-use Rattle.avp.proofs.Refusals.{accepted-whole}
-use Rattle.avp.proofs.AVP.head.Statement.{statement}
-use Rattle.avp.proofs.AVP.head.Tie as tie
+use Rattle.front.proofs.Fronts.{was-whole, was-broken}
+use Rattle.front.proofs.Refusals.{accepted-whole}
+use Rattle.front.proofs.head.Statement.{statement}
+use Rattle.front.proofs.head.Tie as tie
 
 refusal-requires : tie.Need-refusal-requires
 refusal-requires c κs = was-broken _ (sym (c .enum-told .given .1) ∙ c .before .before .complete .ensures)

@@ -5,10 +5,10 @@ use mathlib.Core.Path.{_≡_, refl, sym, ap, _∙_}
 use mathlib.Core.Bool.{cond}
 use lib.Dec.{eqb}
 use Rattle.rfc6733.specs.Answer.{Answer, accepted, refused, incomplete}
 use Rattle.avp.specs.declared.AVP.{AVP}
-use Rattle.avp.specs.declared.Front.{Front}
-use Rattle.avp.specs.declared.Front.the-variants.{Whole, Incomplete, BadLength}
-use Rattle.avp.specs.Front.{answerOf}
+use Rattle.front.specs.declared.Front.{Front}
+use Rattle.front.specs.declared.Front.the-variants.{Whole, Incomplete, BadLength}
+use Rattle.front.specs.Front.{answerOf}
 
 abbrev outcome-back : Answer AVP → Front
 outcome-back (accepted a) = Whole a

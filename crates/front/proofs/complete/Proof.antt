@@ -8,10 +8,10 @@ use native.Mathlib.Omega.{arith}
 use denote.Ref.{now}
 use borrow.Author.Needs.{needs}
 use Rattle.rfc6733.proofs.Complete.{Whole}
-use Rattle.avp.proofs.Fields.{Stated, stated, Padded, padded, header-there, fields-are}
-use Rattle.avp.proofs.Refusals.{not-complete, broken, whole}
-use Rattle.avp.proofs.AVP.complete.Statement.{statement}
-use Rattle.avp.proofs.AVP.complete.Tie as tie
+use Rattle.front.proofs.Fields.{Stated, stated, Padded, padded, header-there, fields-are}
+use Rattle.front.proofs.Refusals.{not-complete, broken, whole}
+use Rattle.front.proofs.complete.Statement.{statement}
+use Rattle.front.proofs.complete.Tie as tie
 
 abbrev input : tie.After-be-u24 → List ℕ
 input c = now (c .before .before .before .before .before .before .before .args .s)

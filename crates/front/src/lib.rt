@@ -1,0 +1,114 @@
+// The AVP at the front of a slice, and whether AVPs tile.
+// This crate knows an AVP's header and padding, and nothing of what its data mean.
+use avp::AVP;
+ghost use Prim.Native.Nat.{_≤_};
+ghost use mathlib.Core.Path.{_≡_};
+ghost use mathlib.Core.Bool.{false};
+ghost use lib.ListN.{length};
+ghost use Rattle.rfc6733.specs.Avp.{flags, headSize, vendor, complete};
+ghost use Rattle.rfc6733.specs.Record.{tiling};
+ghost use Rattle.front.specs.Front.{completeOf, answerOf, frontOf};
+
+/// What is at the front of a slice, as a run asks it: a complete AVP, or none.
+pub enum Next {
+    Whole(AVP),
+    Broken,
+}
+
+/// What is at the front of a slice: a complete AVP, or the refusal.
+pub enum Front {
+    Whole(AVP),
+    Incomplete(usize),
+    BadLength,
+}
+
+// Present only with the vendor bit.
+fn vendor_id(s: &[u8]) -> u32
+    requires { ⌜ headSize (flags (now s)) ≤ length (now s) ⌝ }
+    ensures { λ r. ⌜ r ≡ vendor (now (s .entry)) ⌝ }
+{
+    if AVP::vendor_specific_flag(s[4]) {
+        return octets::be_u32(s[8], s[9], s[10], s[11]);
+    }
+    0
+}
+
+// The first refusal, in the order in which the fields are read: the code, the flags, the length, the vendor, the padding.
+fn refusal(s: &[u8]) -> Front
+    requires { ⌜ complete (now s) ≡ false ⌝ }
+    ensures { λ r. ⌜ answerOf r ≡ frontOf (now (s .entry)) ⌝ }
+{
+    let available = s.len();
+    if available < AVP::CODE_SIZE {
+        return Front::Incomplete(AVP::CODE_SIZE - available);
+    }
+    if available == AVP::CODE_SIZE {
+        return Front::Incomplete(1);
+    }
+    if available < AVP::PRE_LENGTH_SIZE {
+        return Front::Incomplete(AVP::PRE_LENGTH_SIZE - available);
+    }
+    let length = octets::be_u24(s[5], s[6], s[7]) as usize;
+    if length < AVP::PRE_LENGTH_SIZE {
+        return Front::BadLength;
+    }
+    if available < length {
+        return Front::Incomplete(length - available);
+    }
+    let header_size = AVP::header_size_of(s[4]);
+    if length < header_size {
+        return Front::BadLength;
+    }
+    Front::Incomplete(length + AVP::padding(length - header_size) - available)
+}
+
+/// The AVP at the front of `s`, if it is complete. Three tests tell.
+pub fn complete(s: &[u8]) -> Next
+    ensures { λ r. ⌜ r ≡ completeOf (now (s .entry)) ⌝ }
+{
+    let available = s.len();
+    if available < AVP::PRE_LENGTH_SIZE {
+        return Next::Broken;
+    }
+    let flags = s[4];
+    let length = octets::be_u24(s[5], s[6], s[7]) as usize;
+    let header_size = AVP::header_size_of(flags);
+    if length < header_size {
+        return Next::Broken;
+    }
+    let size = length + AVP::padding(length - header_size);
+    if available < size {
+        return Next::Broken;
+    }
+    Next::Whole(AVP {
+        code: octets::be_u32(s[0], s[1], s[2], s[3]),
+        flags,
+        length,
+        vendor_id: vendor_id(s),
+        size,
+    })
+}
+
+/// The AVP at the front of `s`, or the first refusal.
+pub fn head(s: &[u8]) -> Front
+    ensures { λ r. ⌜ answerOf r ≡ frontOf (now (s .entry)) ⌝ }
+{
+    match complete(s) {
+        Next::Whole(a) => Front::Whole(a),
+        Next::Broken => refusal(s),
+    }
+}
+
+/// Do complete AVPs cover `s` to its last byte?
+pub fn tiles(s: &[u8]) -> bool
+    ensures { λ r. ⌜ r ≡ tiling (now (s .entry)) ⌝ }
+{
+    let mut at: usize = 0;
+    while at < s.len() {
+        let Next::Whole(a) = complete(&s[at..]) else {
+            return false;
+        };
+        at += a.size;
+    }
+    true
+}
