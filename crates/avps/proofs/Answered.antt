@@ -1,23 +1,22 @@
--- What was counted of a run leads to the answer, in the order of the refusals; and past them all the records fit. No level is deeper
--- than headers are tried, and no more headers are tried than there are bytes, so neither a place nor a depth passes a usize.
+-- What was counted of a run leads to the answer, in the order of the refusals; and a store that was filled and cleared is the one that
+-- the answer leaves.
 -- Assumes nothing.
-use Prim.Native.Nat.{ℕ, _+_, _*_, _^_, _≤_, _<_}
-use mathlib.Core.Path.{_≡_, sym, ap, _∙_}
+use Prim.Native.Nat.{ℕ, _≤_, _<_}
+use mathlib.Core.Path.{_≡_, sym, _∙_}
 use mathlib.Core.Bool.{true, false}
 use mathlib.Core.List.{List}
 use native.Mathlib.Omega.{arith}
 use lib.ListN.{length}
 use Rattle.octets.specs.Run.{Tree, tree, tiles, deepest}
-use Rattle.rfc6733.specs.Answer.{accepted, refused, noRecords}
 use Rattle.rfc6733.specs.Dictionary.{Dictionary}
-use Rattle.rfc6733.specs.Record.{avps, errors, recordSize}
+use Rattle.rfc6733.specs.Record.{avps, errors}
 use Rattle.rfc6733.specs.Decoder.{stored}
 use Rattle.rfc6733.proofs.Decoded.{deeper, more-records, fits}
 use Rattle.rfc6733.proofs.RunRecords.{records-count}
 use Rattle.count.proofs.Counts.{Known}
 use Rattle.avps.specs.declared.Counts.{Counts}
 use Rattle.avps.specs.declared.Filled.the-variants.{Accepted, NotTiled, TooDeep, NoRecords}
-use Rattle.avps.specs.Fill.{Room, Cleared}
+use Rattle.avps.specs.Fill.{Cleared}
 use Rattle.avps.specs.Answers.{countsAs, answerOf, runRecords, runCounts, runAnswer}
 
 module _ (D : Dictionary) (limit room place : ℕ) (s : List ℕ) where

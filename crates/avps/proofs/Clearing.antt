@@ -1,6 +1,6 @@
 -- A store whose front has the records and whose rest was then cleared holds the records and zero to its last byte.
 -- Assumes nothing.
-use Prim.Native.Nat.{ℕ, _-_, _*_, _≤_}
+use Prim.Native.Nat.{ℕ, _-_, _≤_}
 use mathlib.Core.Path.{_≡_, sym, ap, ap₂, _∙_}
 use mathlib.Core.List.{List, _++_}
 use native.Mathlib.Omega.{arith}
@@ -8,12 +8,7 @@ use lib.ListN.{length, take, drop, replicate, length-drop, length-take}
 use lib.Seq.{take-at}
 use borrow.Rule.Slice.PartMut.{putMid}
 use Rattle.octets.specs.Octets.{over}
-use Rattle.octets.specs.Run.{Tree}
 use Rattle.octets.proofs.Lists.{over-length, lent}
-use Rattle.rfc6733.specs.Dictionary.{Dictionary}
-use Rattle.rfc6733.specs.Record.{recordSize, laid, records, recordCount}
-use Rattle.rfc6733.proofs.Layouts.{laid-length}
-use Rattle.rfc6733.proofs.RunRecords.{records-count}
 
 -- n bytes were written over the front of the store, and what is after them was lent and came back as zeros
 pub cleared : (new before written back : List ℕ) (n : ℕ) → n ≡ length new → length new ≤ length before → written ≡ over new before
@@ -29,10 +24,3 @@ cleared new before written back n size fits is zeros =
     ∙ ap₂ _++_
     (ap (take n) is ∙ take-at new (drop (length new) before) n (sym size))
     (zeros ∙ ap (λ (x : ℕ). replicate x 0) k)
-
--- the bytes of a run's records
-pub records-size : (D : Dictionary) (place depth : ℕ) (t : Tree) → length (laid (records D place depth t)) ≡ recordCount t * recordSize
-records-size D place depth t =
-    let l = laid-length (records D place depth t) in
-    let c = records-count D place depth t in
-    omega arith

@@ -75,7 +75,7 @@ module _ {D : Dictionary} {t : Tree} {place q depth n e : ℕ} {before now : Lis
 -- ---- one AVP more
 
 -- how many bytes a run's records take
-records-length : (D : Dictionary) (place depth : ℕ) (t : Tree) → length (laid (records D place depth t)) ≡ recordCount t * recordSize
+pub records-length : (D : Dictionary) (place depth : ℕ) (t : Tree) → length (laid (records D place depth t)) ≡ recordCount t * recordSize
 records-length D place depth t = omega (arith, laid-length (records D place depth t), records-count D place depth t)
 
 module _ {D : Dictionary} {s : List ℕ} {place depth : ℕ} {before : List ℕ} (fits : Room (tree (avps D) s) place (length s) depth (length before))

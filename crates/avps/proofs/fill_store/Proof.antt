@@ -6,7 +6,8 @@ use borrow.Author.Needs.{needs}
 use Rattle.octets.specs.Run.{tree}
 use Rattle.rfc6733.specs.Record.{laid, avps, records}
 use Rattle.attribute.specs.Attributes.{dictionary}
-use Rattle.avps.proofs.Clearing.{records-size, cleared}
+use Rattle.avps.proofs.Filling.{records-length}
+use Rattle.avps.proofs.Clearing.{cleared}
 use Rattle.avps.proofs.fill_store.Statement.{statement}
 use Rattle.avps.proofs.fill_store.Tie as tie
 
@@ -17,7 +18,7 @@ returns c =
     let D = dictionary (b .args .reading) in
     let t = tree (avps D) (now (b .args .s)) in
     let w = read .read-run .ensures in
-    let size = records-size D (b .args .place) 1 t in
+    let size = records-length D (b .args .place) 1 t in
     let room = b .pre .1 in
     record {
       errors-are = w .errors-are;

@@ -1,5 +1,5 @@
 -- `parse_avps` meets its contract: what is counted of the run decides among the refusals in their order, and past them all the
--- records fit, and the store is filled with them. A refusal comes before any write.
+-- records fit, and the store is filled with them. No level is deeper than there are bytes, so no depth passes a usize.
 -- Assumes nothing.
 use Prim.Native.Nat.{_<_}
 use mathlib.Core.Path.{_≡_, refl, sym, _∙_}

@@ -2,7 +2,6 @@
 -- is none. A record is always allowed the depth that it has.
 -- Assumes nothing.
 use native.Mathlib.Omega.{arith}
-use borrow.Author.Needs.{needs}
 use Rattle.record.specs.Stored.{recordAs}
 use Rattle.rules.proofs.Records.{is-group, no-group}
 use Rattle.rules.proofs.Checks.{no-depth, too-deep, no-kind, other-vendor, then-group, then-leaf}
