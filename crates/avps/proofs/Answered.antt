@@ -14,8 +14,9 @@ use Rattle.rfc6733.specs.Decoder.{stored}
 use Rattle.rfc6733.proofs.Decoded.{deeper, more-records, fits}
 use Rattle.rfc6733.proofs.RunRecords.{records-count}
 use Rattle.count.proofs.Counts.{Known}
+use Rattle.refusal.specs.declared.Refusal.the-variants.{NotTiled, TooDeep, NoRecords}
 use Rattle.avps.specs.declared.Counts.{Counts}
-use Rattle.avps.specs.declared.Filled.the-variants.{Accepted, NotTiled, TooDeep, NoRecords}
+use Rattle.avps.specs.declared.Filled.the-variants.{Accepted, Refused}
 use Rattle.avps.specs.Fill.{Cleared}
 use Rattle.avps.specs.Answers.{countsAs, answerOf, runRecords, runCounts, runAnswer}
 
@@ -23,12 +24,12 @@ module _ (D : Dictionary) (limit room place : ℕ) (s : List ℕ) where
   abbrev run : Tree
   run = tree (avps D) s
 
-  pub not-tiled : tiles run ≡ false → answerOf NotTiled ≡ runAnswer D limit room place s
+  pub not-tiled : tiles run ≡ false → answerOf (Refused NotTiled) ≡ runAnswer D limit room place s
   unfolding answerOf runAnswer
   not-tiled e = rw e
 
   module _ (tiled : tiles run ≡ true) where
-    pub too-deep : limit < deepest run → answerOf TooDeep ≡ runAnswer D limit room place s
+    pub too-deep : limit < deepest run → answerOf (Refused TooDeep) ≡ runAnswer D limit room place s
     unfolding answerOf runAnswer
     too-deep h = rw tiled (deeper limit room run (runRecords D place s) (runCounts D place s) h)
 
@@ -37,7 +38,7 @@ module _ (D : Dictionary) (limit room place : ℕ) (s : List ℕ) where
     unfolding runRecords
     counted = records-count D place 1 run ∙ sym (k .records-is)
 
-    pub no-records : room < records → answerOf (NoRecords records) ≡ runAnswer D limit room place s
+    pub no-records : room < records → answerOf (Refused (NoRecords records)) ≡ runAnswer D limit room place s
     unfolding answerOf runAnswer runRecords
     no-records less =
         rw (sym (k .tiles-is), k .records-is)

@@ -6,23 +6,22 @@ use mathlib.Core.List.{List, _∷_}
 use lib.ListN.{length}
 use Rattle.octets.specs.Run.{tree, tiles, tried}
 use Rattle.rfc6733.specs.Answer as rfc
-use Rattle.rfc6733.specs.Answer.{Answer, accepted, refused, refuse, answer}
+use Rattle.rfc6733.specs.Answer.{Answer, accepted, refuse, answer}
 use Rattle.rfc6733.specs.Dictionary.{Dictionary}
 use Rattle.rfc6733.specs.Record.{Record, avps, errors, records}
 use Rattle.rfc6733.specs.Decoder as definition
 use Rattle.rfc6733.specs.Decoder.{runRefusals}
+use Rattle.refusal.specs.Refusals.{refusedAs}
 use Rattle.avps.specs.declared.Counts.{Counts}
 use Rattle.avps.specs.declared.Filled.{Filled}
-use Rattle.avps.specs.declared.Filled.the-variants.{Accepted, NotTiled, TooDeep, NoRecords}
+use Rattle.avps.specs.declared.Filled.the-variants.{Accepted, Refused}
 
 unfoldable pub countsAs : Counts → definition.Counts
 countsAs c = record { flags = c .flags; records = c .records; tried = c .tried; length = c .length }
 
 unfoldable pub answerOf : Filled → Answer definition.Counts
 answerOf (Accepted c) = accepted (countsAs c)
-answerOf NotTiled = refused rfc.notTiled 0
-answerOf TooDeep = refused rfc.tooDeep 0
-answerOf (NoRecords n) = refused rfc.noRecords n
+answerOf (Refused r) = refusedAs r
 
 -- the records of the run s, which stands at a place
 unfoldable pub runRecords : Dictionary → ℕ → List ℕ → List Record

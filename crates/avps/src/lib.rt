@@ -5,6 +5,7 @@ mod fill;
 use attribute::Reading;
 use count::Counted;
 use record::Record;
+use refusal::Refusal;
 ghost use mathlib.Core.Path.{_≡_};
 ghost use mathlib.Core.Bool.{true};
 ghost use lib.ListN.{length, replicate};
@@ -26,9 +27,7 @@ pub struct Counts {
 /// What reading a run answers.
 pub enum Filled {
     Accepted(Counts),
-    NotTiled,
-    TooDeep,
-    NoRecords(usize),
+    Refused(Refusal),
 }
 
 // Sets every byte to zero.
@@ -68,15 +67,15 @@ pub fn parse_avps(reading: Reading, limit: usize, s: &[u8], place: u32, store: &
     else {
         // NotTiled comes first
         if !front::tiles(s) {
-            return Filled::NotTiled;
+            return Filled::Refused(Refusal::NotTiled);
         }
-        return Filled::TooDeep;
+        return Filled::Refused(Refusal::TooDeep);
     };
     if !tiles {
-        return Filled::NotTiled;
+        return Filled::Refused(Refusal::NotTiled);
     }
     if store.len() / Record::SIZE < records {
-        return Filled::NoRecords(records);
+        return Filled::Refused(Refusal::NoRecords(records));
     }
     let flags = fill_store(reading, s, place as usize, store);
     Filled::Accepted(Counts {

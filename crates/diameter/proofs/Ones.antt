@@ -3,19 +3,16 @@
 -- Assumes nothing.
 use Prim.Native.Nat.{ℕ}
 use mathlib.Core.Path.{_≡_, refl, ap, _∙_}
-use mathlib.Core.Bool.{Bool, true, false, cond}
+use mathlib.Core.Bool.{Bool, true, false}
 use mathlib.Core.List.{List}
 use native.Mathlib.Omega.{arith}
 use lib.ListN.{length, take}
 use lib.Seq.{length-take-le}
-use lib.Dec.{ltb}
-use Rattle.octets.specs.Run.{Tree, done, node, tree, tiles, deepest, item}
-use Rattle.rfc6733.specs.Answer.{accepted, refused, notTiled, tooDeep, noRecords}
+use Rattle.octets.specs.Run.{Tree, done, node, tree, tiles, item}
 use Rattle.rfc6733.specs.Avp.{payload, complete}
 use Rattle.rfc6733.specs.Dictionary.{Dictionary}
 use Rattle.rfc6733.specs.Record.{avps}
 use Rattle.rfc6733.specs.Decoder.{aloneRun, aloneRecords, aloneOf, avpAlone}
-use Rattle.rfc6733.proofs.Answers.{not-accepted}
 use Rattle.rfc6733.proofs.Alone.{alone, exact-tree, item-exact}
 use Rattle.rfc6733.proofs.Complete.{complete-whole}
 use Rattle.rfc6733.proofs.Decoded.{alone-past}
@@ -49,16 +46,3 @@ module _ (D : Dictionary) (size : ℕ) (s : List ℕ) (w : Complete size s) wher
   unfolding runAnswer runCounts aloneOf complete
   alone-is limit room ok =
       rw (own-tiles, own-run, own-records, own-length, w .size-is) (alone-past D limit room s (ok .low) (ok .high) (w .whole))
-
-  -- it is never refused as not tiled
-  pub always-tiled : (limit room : ℕ) → refused notTiled 0 ≡ runAnswer D limit room 0 (take size s) → ⊥
-  unfolding runAnswer
-  always-tiled limit room e = by (ltb limit (deepest (tree (avps D) (take size s)))) (ltb room (length (runRecords D 0 (take size s)))) (rw own-tiles at e)
-    where
-      by : (deep more : Bool)
-          → refused notTiled 0
-          ≡ cond deep (refused tooDeep 0) (cond more (refused noRecords (length (runRecords D 0 (take size s)))) (accepted (runCounts D 0 (take size s))))
-          → ⊥
-      by true more f = let z : _≡_ {A = ℕ} notTiled tooDeep = cc in omega arith
-      by false true f = let z : _≡_ {A = ℕ} notTiled noRecords = cc in omega arith
-      by false false f = not-accepted f

@@ -1,23 +1,20 @@
--- The answers of the two decoders, as document 01's.
+-- The answer of the decoder of messages, as document 01's.
 -- Assumes nothing: these are definitions.
 use Prim.Native.Nat.{ℕ, _≤_}
 use mathlib.Core.Path.{_≡_}
 use mathlib.Core.Bool.{true}
 use mathlib.Core.List.{List}
 use Rattle.rfc6733.specs.Avp.{avpSize, complete}
-use Rattle.rfc6733.specs.Answer as rfc
-use Rattle.rfc6733.specs.Answer.{Answer, accepted, refused}
+use Rattle.rfc6733.specs.Answer.{Answer, accepted}
 use Rattle.rfc6733.specs.Decoder as definition
-use Rattle.avps.specs.Answers.{countsAs}
+use Rattle.refusal.specs.Refusals.{refusedAs}
 use Rattle.header.specs.declared.Header.{Header}
-use Rattle.header.specs.declared.Parsed.the-variants.{Accepted}
+use Rattle.header.specs.declared.Parsed.the-variants as parsed
 use Rattle.header.specs.Parsed as header
 use Rattle.header.specs.Parsed.{headerAs}
 use Rattle.diameter.specs.declared.Message.{Message}
 use Rattle.diameter.specs.declared.Decoded.{Decoded}
-use Rattle.diameter.specs.declared.Decoded.the-variants as message
-use Rattle.diameter.specs.declared.DecodedAvp.{DecodedAvp}
-use Rattle.diameter.specs.declared.DecodedAvp.the-variants as alone
+use Rattle.diameter.specs.declared.Decoded.the-variants.{Accepted, Refused}
 
 -- a depth limit that is not refused
 pub record Limited (limit : ℕ) : Type 0 where
@@ -26,7 +23,7 @@ pub record Limited (limit : ℕ) : Type 0 where
 
 -- a header that was accepted, with its flags
 pub record Headed (h : Header) (flags : ℕ) (s : List ℕ) : Type 0 where
-  pub is : header.answerOf (Accepted h flags) ≡ definition.headerAlone s
+  pub is : header.answerOf (parsed.Accepted h flags) ≡ definition.headerAlone s
 
 -- an AVP at the front that is complete, of so many bytes
 pub record Complete (size : ℕ) (s : List ℕ) : Type 0 where
@@ -41,19 +38,5 @@ messageAs m =
     }
 
 unfoldable pub answerOf : Decoded → Answer definition.Message
-answerOf (message.Accepted m) = accepted (messageAs m)
-answerOf (message.Incomplete n) = refused rfc.incomplete n
-answerOf message.NotVersion = refused rfc.notVersion 0
-answerOf message.BadLength = refused rfc.badLength 0
-answerOf message.NotTiled = refused rfc.notTiled 0
-answerOf message.TooDeep = refused rfc.tooDeep 0
-answerOf (message.NoRecords n) = refused rfc.noRecords n
-answerOf message.BadDepth = refused rfc.badDepth 0
-
-unfoldable pub avpAnswerOf : DecodedAvp → Answer definition.Counts
-avpAnswerOf (alone.Accepted c) = accepted (countsAs c)
-avpAnswerOf (alone.Incomplete n) = refused rfc.incomplete n
-avpAnswerOf alone.BadLength = refused rfc.badLength 0
-avpAnswerOf alone.TooDeep = refused rfc.tooDeep 0
-avpAnswerOf (alone.NoRecords n) = refused rfc.noRecords n
-avpAnswerOf alone.BadDepth = refused rfc.badDepth 0
+answerOf (Accepted m) = accepted (messageAs m)
+answerOf (Refused r) = refusedAs r

@@ -72,13 +72,7 @@ fn dump(input: &[u8]) {
             last(m.tried as u64);
             lines(&store, m.records);
         }
-        Decoded::Incomplete(n) => refused(1, n),
-        Decoded::NotVersion => refused(2, 0),
-        Decoded::BadLength => refused(3, 0),
-        Decoded::NotTiled => refused(4, 0),
-        Decoded::TooDeep => refused(5, 0),
-        Decoded::NoRecords(n) => refused(6, n),
-        Decoded::BadDepth => refused(7, 0),
+        Decoded::Refused(why) => refused(why.number() as u64, why.amount()),
     }
 }
 

@@ -2,23 +2,21 @@
 -- its number. So two outcomes with the same answer are the same.
 -- Assumes nothing.
 use mathlib.Core.Path.{_≡_, refl, sym, ap, _∙_}
-use mathlib.Core.Bool.{cond}
-use lib.Dec.{eqb}
-use Rattle.rfc6733.specs.Answer.{Answer, accepted, refused, incomplete}
+use Rattle.rfc6733.specs.Answer.{Answer, accepted, refused}
+use Rattle.refusal.proofs.Back.{refusal-back, is-back}
 use Rattle.avp.specs.declared.AVP.{AVP}
 use Rattle.front.specs.declared.Front.{Front}
-use Rattle.front.specs.declared.Front.the-variants.{Whole, Incomplete, BadLength}
+use Rattle.front.specs.declared.Front.the-variants.{Whole, Refused}
 use Rattle.front.specs.Front.{answerOf}
 
 abbrev outcome-back : Answer AVP → Front
 outcome-back (accepted a) = Whole a
-outcome-back (refused number amount) = cond (eqb number incomplete) (Incomplete amount) BadLength
+outcome-back (refused number amount) = Refused (refusal-back number amount)
 
 outcome-is-back : (r : Front) → outcome-back (answerOf r) ≡ r
 unfolding answerOf
 outcome-is-back (Whole a) = refl
-outcome-is-back (Incomplete n) = refl
-outcome-is-back BadLength = refl
+outcome-is-back (Refused r) = ap Refused (is-back r)
 
 pub answer-of-injective : (r r′ : Front) → answerOf r ≡ answerOf r′ → r ≡ r′
 answer-of-injective r r′ e = sym (outcome-is-back r) ∙ ap outcome-back e ∙ outcome-is-back r′

@@ -14,9 +14,11 @@ use Rattle.rfc6733.specs.Avp.{flags, avpLength, headSize, avpSize, avpRefusals,
 use Rattle.rfc6733.proofs.Answers.{accepts}
 use Rattle.rfc6733.proofs.Complete as rfc
 use Rattle.rfc6733.proofs.Complete.{complete-whole, whole-complete}
+use Rattle.refusal.specs.declared.Refusal.the-variants.{Incomplete, BadLength}
+use Rattle.refusal.specs.Refusals.{refusedAs}
 use Rattle.avp.specs.declared.AVP.{AVP}
 use Rattle.front.specs.declared.Next.the-variants as found
-use Rattle.front.specs.declared.Front.the-variants.{Whole, Incomplete, BadLength}
+use Rattle.front.specs.declared.Front.the-variants.{Whole}
 use Rattle.front.specs.Front.{avpOf, completeOf, answerOf, frontOf}
 
 module _ (s : List ℕ) where
@@ -48,19 +50,19 @@ module _ (s : List ℕ) where
   unfolding answerOf frontOf complete
   accepted-whole t a e = rw e (sym (accepts (avpRefusals s) (avpOf s) t))
 
-  pub under-four : length s < 4 → answerOf (Incomplete (4 - length s)) ≡ frontOf s
-  unfolding answerOf frontOf avpRefusals
+  pub under-four : length s < 4 → refusedAs (Incomplete (4 - length s)) ≡ frontOf s
+  unfolding frontOf avpRefusals
   under-four few = simp (lt-ltb _ _ few)
 
-  pub at-four : length s ≡ 4 → answerOf (Incomplete 1) ≡ frontOf s
-  unfolding answerOf frontOf avpRefusals
+  pub at-four : length s ≡ 4 → refusedAs (Incomplete 1) ≡ frontOf s
+  unfolding frontOf avpRefusals
   at-four e =
       let four : 4 ≤ length s = omega arith in
       let few : length s < 5 = omega arith in
       simp (le-ltb _ _ four, lt-ltb _ _ few)
 
-  pub under-eight : 5 ≤ length s → length s < 8 → answerOf (Incomplete (8 - length s)) ≡ frontOf s
-  unfolding answerOf frontOf avpRefusals
+  pub under-eight : 5 ≤ length s → length s < 8 → refusedAs (Incomplete (8 - length s)) ≡ frontOf s
+  unfolding frontOf avpRefusals
   under-eight five few = let four : 4 ≤ length s = omega arith in simp (le-ltb _ _ four, le-ltb _ _ five, lt-ltb _ _ few)
 
   -- with the first 8 bytes
@@ -71,27 +73,27 @@ module _ (s : List ℕ) where
     five : 5 ≤ length s
     five = omega arith
 
-    pub length-under-eight : avpLength s < 8 → answerOf BadLength ≡ frontOf s
-    unfolding answerOf frontOf avpRefusals
+    pub length-under-eight : avpLength s < 8 → refusedAs BadLength ≡ frontOf s
+    unfolding frontOf avpRefusals
     length-under-eight short = simp (le-ltb _ _ four, le-ltb _ _ five, le-ltb _ _ eight, lt-ltb _ _ short)
 
     -- and a length that counts them
     module _ (counts : 8 ≤ avpLength s) where
-      pub cut-off : length s < avpLength s → (n : ℕ) → n ≡ avpLength s - length s → answerOf (Incomplete n) ≡ frontOf s
-      unfolding answerOf frontOf avpRefusals
+      pub cut-off : length s < avpLength s → (n : ℕ) → n ≡ avpLength s - length s → refusedAs (Incomplete n) ≡ frontOf s
+      unfolding frontOf avpRefusals
       cut-off few n e = simp (le-ltb _ _ four, le-ltb _ _ five, le-ltb _ _ eight, le-ltb _ _ counts, lt-ltb _ _ few, e)
 
       -- and whose bytes are at hand
       module _ (there : avpLength s ≤ length s) where
-        pub length-under-header : avpLength s < headSize (flags s) → answerOf BadLength ≡ frontOf s
-        unfolding answerOf frontOf avpRefusals
+        pub length-under-header : avpLength s < headSize (flags s) → refusedAs BadLength ≡ frontOf s
+        unfolding frontOf avpRefusals
         length-under-header short =
             simp
             (le-ltb _ _ four, le-ltb _ _ five, le-ltb _ _ eight, le-ltb _ _ counts, le-ltb _ _ there, lt-ltb _ _ short)
 
         pub padding-absent : headSize (flags s) ≤ avpLength s → length s < avpSize s → (n : ℕ) → n ≡ avpSize s - length s
-            → answerOf (Incomplete n) ≡ frontOf s
-        unfolding answerOf frontOf avpRefusals
+            → refusedAs (Incomplete n) ≡ frontOf s
+        unfolding frontOf avpRefusals
         padding-absent long few n e =
             simp (
               le-ltb _ _ four,

@@ -3,13 +3,14 @@
 use Prim.Native.Nat.{ℕ}
 use mathlib.Core.Bool.{cond}
 use mathlib.Core.List.{List}
-use Rattle.rfc6733.specs.Answer.{Answer, accepted, refused, answer, incomplete, badLength}
+use Rattle.rfc6733.specs.Answer.{Answer, accepted, answer}
 use Rattle.rfc6733.specs.Avp as rfc
+use Rattle.refusal.specs.Refusals.{refusedAs}
 use Rattle.avp.specs.declared.AVP.{AVP}
 use Rattle.front.specs.declared.Next.{Next}
 use Rattle.front.specs.declared.Next.the-variants as next
 use Rattle.front.specs.declared.Front.{Front}
-use Rattle.front.specs.declared.Front.the-variants.{Whole, Incomplete, BadLength}
+use Rattle.front.specs.declared.Front.the-variants.{Whole, Refused}
 
 -- the fields of the AVP at the front
 unfoldable pub avpOf : List ℕ → AVP
@@ -28,8 +29,7 @@ completeOf s = cond (rfc.complete s) (next.Whole (avpOf s)) next.Broken
 
 unfoldable pub answerOf : Front → Answer AVP
 answerOf (Whole a) = accepted a
-answerOf (Incomplete n) = refused incomplete n
-answerOf BadLength = refused badLength 0
+answerOf (Refused r) = refusedAs r
 
 -- the AVP alone, without what its data are
 unfoldable pub frontOf : List ℕ → Answer AVP

@@ -1,12 +1,14 @@
 // The AVP at the front of a slice, and whether AVPs tile.
 // This crate knows an AVP's header and padding, and nothing of what its data mean.
 use avp::AVP;
+use refusal::Refusal;
 ghost use Prim.Native.Nat.{_≤_};
 ghost use mathlib.Core.Path.{_≡_};
 ghost use mathlib.Core.Bool.{false};
 ghost use lib.ListN.{length};
 ghost use Rattle.rfc6733.specs.Avp.{flags, headSize, vendor, complete};
 ghost use Rattle.rfc6733.specs.Record.{tiling};
+ghost use Rattle.refusal.specs.Refusals.{refusedAs};
 ghost use Rattle.front.specs.Front.{completeOf, answerOf, frontOf};
 
 /// What is at the front of a slice, as a run asks it: a complete AVP, or none.
@@ -18,8 +20,7 @@ pub enum Next {
 /// What is at the front of a slice: a complete AVP, or the refusal.
 pub enum Front {
     Whole(AVP),
-    Incomplete(usize),
-    BadLength,
+    Refused(Refusal),
 }
 
 // Present only with the vendor bit.
@@ -34,32 +35,32 @@ fn vendor_id(s: &[u8]) -> u32
 }
 
 // The first refusal, in the order in which the fields are read: the code, the flags, the length, the vendor, the padding.
-fn refusal(s: &[u8]) -> Front
+fn refusal(s: &[u8]) -> Refusal
     requires { ⌜ complete (now s) ≡ false ⌝ }
-    ensures { λ r. ⌜ answerOf r ≡ frontOf (now (s .entry)) ⌝ }
+    ensures { λ r. ⌜ refusedAs r ≡ frontOf (now (s .entry)) ⌝ }
 {
     let available = s.len();
     if available < AVP::CODE_SIZE {
-        return Front::Incomplete(AVP::CODE_SIZE - available);
+        return Refusal::Incomplete(AVP::CODE_SIZE - available);
     }
     if available == AVP::CODE_SIZE {
-        return Front::Incomplete(1);
+        return Refusal::Incomplete(1);
     }
     if available < AVP::PRE_LENGTH_SIZE {
-        return Front::Incomplete(AVP::PRE_LENGTH_SIZE - available);
+        return Refusal::Incomplete(AVP::PRE_LENGTH_SIZE - available);
     }
     let length = octets::be_u24(s[5], s[6], s[7]) as usize;
     if length < AVP::PRE_LENGTH_SIZE {
-        return Front::BadLength;
+        return Refusal::BadLength;
     }
     if available < length {
-        return Front::Incomplete(length - available);
+        return Refusal::Incomplete(length - available);
     }
     let header_size = AVP::header_size_of(s[4]);
     if length < header_size {
-        return Front::BadLength;
+        return Refusal::BadLength;
     }
-    Front::Incomplete(length + AVP::padding(length - header_size) - available)
+    Refusal::Incomplete(length + AVP::padding(length - header_size) - available)
 }
 
 /// The AVP at the front of `s`, if it is complete. Three tests tell.
@@ -95,7 +96,7 @@ pub fn head(s: &[u8]) -> Front
 {
     match complete(s) {
         Next::Whole(a) => Front::Whole(a),
-        Next::Broken => refusal(s),
+        Next::Broken => Front::Refused(refusal(s)),
     }
 }
 

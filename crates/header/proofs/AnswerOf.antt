@@ -2,14 +2,13 @@
 -- its seven fields and a refusal by its number. So two outcomes with the same answer are the same.
 -- Assumes nothing.
 use mathlib.Core.Path.{_≡_, refl, sym, ap, _∙_}
-use mathlib.Core.Bool.{cond}
-use lib.Dec.{eqb}
-use Rattle.rfc6733.specs.Answer.{Answer, accepted, refused, incomplete, notVersion}
+use Rattle.rfc6733.specs.Answer.{Answer, accepted, refused}
 use Rattle.rfc6733.specs.Header as rfc
 use Rattle.rfc6733.specs.Decoder.{Message}
+use Rattle.refusal.proofs.Back.{refusal-back, is-back}
 use Rattle.header.specs.declared.Header.{Header}
 use Rattle.header.specs.declared.Parsed.{Parsed}
-use Rattle.header.specs.declared.Parsed.the-variants.{Accepted, Incomplete, NotVersion, BadLength}
+use Rattle.header.specs.declared.Parsed.the-variants.{Accepted, Refused}
 use Rattle.header.specs.Parsed.{headerAs, answerOf}
 
 abbrev pub header-back : rfc.Header → Header
@@ -26,15 +25,12 @@ header-back h =
 
 abbrev outcome-back : Answer Message → Parsed
 outcome-back (accepted m) = Accepted (header-back (m .header)) (m .counts .flags)
-outcome-back (refused number amount) =
-    cond (eqb number incomplete) (Incomplete amount) (cond (eqb number notVersion) NotVersion BadLength)
+outcome-back (refused number amount) = Refused (refusal-back number amount)
 
 outcome-is-back : (r : Parsed) → outcome-back (answerOf r) ≡ r
 unfolding headerAs answerOf
 outcome-is-back (Accepted h flags) = refl
-outcome-is-back (Incomplete n) = refl
-outcome-is-back NotVersion = refl
-outcome-is-back BadLength = refl
+outcome-is-back (Refused r) = ap Refused (is-back r)
 
 pub header-as-injective : (h h′ : Header) → headerAs h ≡ headerAs h′ → h ≡ h′
 unfolding headerAs

@@ -14,8 +14,9 @@ use Rattle.rfc6733.specs.Flags.{flag, nonZeroReserved}
 use Rattle.rfc6733.specs.Header as rfc
 use Rattle.rfc6733.specs.Header.{headerSize, messageLength, headerReserved, headerOf, headerErrors, headerRefusals}
 use Rattle.rfc6733.specs.Decoder.{headerAlone}
+use Rattle.refusal.specs.declared.Refusal.the-variants.{Incomplete, NotVersion, BadLength}
 use Rattle.header.specs.declared.Header.{Header}
-use Rattle.header.specs.declared.Parsed.the-variants.{Accepted, Incomplete, NotVersion, BadLength}
+use Rattle.header.specs.declared.Parsed.the-variants.{Accepted, Refused}
 use Rattle.header.specs.Parsed.{headerAs, answerOf}
 use Rattle.header.proofs.Availability.{Missing}
 
@@ -25,17 +26,17 @@ unfolding headerAs headerOf
 flags-are s h e = ap (λ (x : rfc.Header). x .flags) e ∙ one-byte s 4
 
 module _ (s : List ℕ) where
-  pub no-byte : length s < 1 → answerOf (Incomplete 1) ≡ headerAlone s
+  pub no-byte : length s < 1 → answerOf (Refused (Incomplete 1)) ≡ headerAlone s
   unfolding answerOf headerAlone headerRefusals
   no-byte none = simp (lt-ltb _ _ none)
 
-  pub other-version : 1 ≤ length s → (getD s 0 0 ≡ 1 → ⊥) → answerOf NotVersion ≡ headerAlone s
+  pub other-version : 1 ≤ length s → (getD s 0 0 ≡ 1 → ⊥) → answerOf (Refused NotVersion) ≡ headerAlone s
   unfolding answerOf headerAlone headerRefusals
   other-version some other = simp (le-ltb _ _ some, one-byte, ne-eqb _ _ other)
 
   -- of this version
   module _ (one : getD s 0 0 ≡ 1) where
-    pub under-four : 1 ≤ length s → length s < 4 → answerOf (Incomplete (4 - length s)) ≡ headerAlone s
+    pub under-four : 1 ≤ length s → length s < 4 → answerOf (Refused (Incomplete (4 - length s))) ≡ headerAlone s
     unfolding answerOf headerAlone headerRefusals
     under-four some few = simp (le-ltb _ _ some, one-byte, eq-eqb _ _ one, lt-ltb _ _ few)
 
@@ -44,13 +45,13 @@ module _ (s : List ℕ) where
       some : 1 ≤ length s
       some = omega arith
 
-      pub length-under-four : messageLength s < 4 → answerOf BadLength ≡ headerAlone s
+      pub length-under-four : messageLength s < 4 → answerOf (Refused BadLength) ≡ headerAlone s
       unfolding answerOf headerAlone headerRefusals
       length-under-four short = simp (le-ltb _ _ some, one-byte, eq-eqb _ _ one, le-ltb _ _ four, lt-ltb _ _ short)
 
       -- that counts the bytes up to it
       module _ (counts : 4 ≤ messageLength s) where
-        pub cut-off : (n : ℕ) → Missing (messageLength s) (length s) n → answerOf (Incomplete n) ≡ headerAlone s
+        pub cut-off : (n : ℕ) → Missing (messageLength s) (length s) n → answerOf (Refused (Incomplete n)) ≡ headerAlone s
         unfolding answerOf headerAlone headerRefusals
         cut-off n m =
             simp
@@ -58,7 +59,7 @@ module _ (s : List ℕ) where
 
         -- and whose bytes are at hand
         module _ (there : messageLength s ≤ length s) where
-          pub length-under-header : messageLength s < headerSize → answerOf BadLength ≡ headerAlone s
+          pub length-under-header : messageLength s < headerSize → answerOf (Refused BadLength) ≡ headerAlone s
           unfolding answerOf headerAlone headerRefusals
           length-under-header short =
               simp

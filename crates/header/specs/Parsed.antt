@@ -3,12 +3,13 @@
 use Prim.Native.Nat.{ℕ, _-_}
 use mathlib.Core.Bool.{cond}
 use lib.Dec.{ltb}
-use Rattle.rfc6733.specs.Answer.{Answer, accepted, refused, incomplete, notVersion, badLength}
+use Rattle.rfc6733.specs.Answer.{Answer, accepted}
 use Rattle.rfc6733.specs.Header as rfc
 use Rattle.rfc6733.specs.Decoder.{Message}
+use Rattle.refusal.specs.Refusals.{refusedAs}
 use Rattle.header.specs.declared.Header.{Header}
 use Rattle.header.specs.declared.Parsed.{Parsed}
-use Rattle.header.specs.declared.Parsed.the-variants.{Accepted, Incomplete, NotVersion, BadLength}
+use Rattle.header.specs.declared.Parsed.the-variants.{Accepted, Refused}
 use Rattle.header.specs.declared.Available.{Available}
 use Rattle.header.specs.declared.Available.the-variants.{Enough, Absent}
 
@@ -29,9 +30,7 @@ headerAs h =
 unfoldable pub answerOf : Parsed → Answer Message
 answerOf (Accepted h flags) =
     accepted (record { header = headerAs h; counts = record { flags = flags; records = 0; tried = 0; length = rfc.headerSize } })
-answerOf (Incomplete n) = refused incomplete n
-answerOf NotVersion = refused notVersion 0
-answerOf BadLength = refused badLength 0
+answerOf (Refused r) = refusedAs r
 
 -- are the bytes of a length at hand, and how many are absent?
 unfoldable pub availableOf : ℕ → ℕ → Available

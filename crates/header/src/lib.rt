@@ -1,6 +1,7 @@
 // The Diameter header: its constants, its flag questions, and reading it alone.
 // This crate knows the header's 20 bytes, and nothing of AVPs.
 use flags::ErrorFlags;
+use refusal::Refusal;
 ghost use mathlib.Core.Path.{_≡_};
 ghost use mathlib.Core.Bool.{not};
 ghost use Prim.Native.Nat.{_≤_};
@@ -26,9 +27,7 @@ pub struct Header {
 /// What reading a header answers: the header with its own error flags, or the refusal.
 pub enum Parsed {
     Accepted { header: Header, flags: u8 },
-    Incomplete(usize),
-    NotVersion,
-    BadLength,
+    Refused(Refusal),
 }
 
 /// Are as many bytes at hand as a length states?
@@ -150,23 +149,23 @@ impl Header {
     {
         let available = input.len();
         if available < 1 {
-            return Parsed::Incomplete(1);
+            return Parsed::Refused(Refusal::Incomplete(1));
         }
         if input[0] != Self::VERSION {
-            return Parsed::NotVersion;
+            return Parsed::Refused(Refusal::NotVersion);
         }
         if available < Self::PRE_LENGTH_SIZE {
-            return Parsed::Incomplete(Self::PRE_LENGTH_SIZE - available);
+            return Parsed::Refused(Refusal::Incomplete(Self::PRE_LENGTH_SIZE - available));
         }
         let stated = octets::be_u24(input[1], input[2], input[3]) as usize;
         if stated < Self::PRE_LENGTH_SIZE {
-            return Parsed::BadLength;
+            return Parsed::Refused(Refusal::BadLength);
         }
         if let Available::Absent(absent) = length(stated, available) {
-            return Parsed::Incomplete(absent);
+            return Parsed::Refused(Refusal::Incomplete(absent));
         }
         if stated < Self::SIZE {
-            return Parsed::BadLength;
+            return Parsed::Refused(Refusal::BadLength);
         }
         let header = Self::fields(input);
         Parsed::Accepted {

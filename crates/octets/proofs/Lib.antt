@@ -1,3 +1,4 @@
+pub mod Layouts
 pub mod Lists
 pub mod Numbers
 pub mod Runs

@@ -33,6 +33,49 @@ abbrev pub widths : List Field → ℕ
 widths [] = 0
 widths (f ∷ fs) = f .width + widths fs
 
+-- A layout: how wide each number is, the numbers of a value, and the value of some numbers. It is read and written by the same list.
+pub record Layout (A : Type 0) : Type 0 where
+  pub sizes : List ℕ
+  pub numbers : A → List ℕ
+  pub made : List ℕ → A
+
+-- how many bytes some widths take
+abbrev pub total : List ℕ → ℕ
+total [] = 0
+total (w ∷ ws) = w + total ws
+
+-- numbers of some widths as fields; one that is absent counts as 0
+abbrev pub fields : List ℕ → List ℕ → List Field
+fields [] ns = []
+fields (w ∷ ws) [] = field w 0 ∷ fields ws []
+fields (w ∷ ws) (n ∷ ns) = field w n ∷ fields ws ns
+
+-- the numbers of some widths that stand in s from place i on
+abbrev pub unpack : List ℕ → List ℕ → ℕ → List ℕ
+unpack [] s i = []
+unpack (w ∷ ws) s i = be w s i ∷ unpack ws s (i + w)
+
+-- the fields of a value
+abbrev pub fieldsOf : {A : Type 0} → Layout A → A → List Field
+fieldsOf L x = fields (L .sizes) (L .numbers x)
+
+-- the value at the front of s
+abbrev pub valueAt : {A : Type 0} → Layout A → List ℕ → A
+valueAt L s = L .made (unpack (L .sizes) s 0)
+
+-- the lowest bytes of each number
+abbrev pub low : List ℕ → List ℕ → List ℕ
+low [] ns = []
+low (w ∷ ws) [] = 0 % 256 ^ w ∷ low ws []
+low (w ∷ ws) (n ∷ ns) = n % 256 ^ w ∷ low ws ns
+
+-- each number is less than its width allows, and there are as many as widths
+abbrev pub Fit : List ℕ → List ℕ → Type 0
+Fit [] [] = Unit {0}
+Fit [] (n ∷ ns) = ⊥
+Fit (w ∷ ws) [] = ⊥
+Fit (w ∷ ws) (n ∷ ns) = (n < 256 ^ w) × Fit ws ns
+
 -- some bytes over the front of others
 unfoldable pub over : List ℕ → List ℕ → List ℕ
 over new old = new ++ drop (length new) old

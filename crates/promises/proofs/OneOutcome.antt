@@ -11,6 +11,8 @@ use Rattle.octets.proofs.to_be_u24.Reads as to-be-u24
 use Rattle.octets.proofs.to_be_u32.Reads as to-be-u32
 use Rattle.octets.proofs.to_be_u64.Reads as to-be-u64
 use Rattle.rfc3629.proofs.is_utf8.Reads as is-utf8
+use Rattle.refusal.proofs.Refusal.number.Reads as number
+use Rattle.refusal.proofs.Refusal.amount.Reads as amount
 use Rattle.flags.proofs.raised.Reads as raised
 use Rattle.flags.proofs.join.Reads as join
 use Rattle.signed.proofs.signed_enumerated.Reads as signed-enumerated
@@ -98,6 +100,14 @@ to-be-u64-one κs a r r′ s p q = p ∙ sym q
 
 is-utf8-one : Single is-utf8.Post
 is-utf8-one κs a r r′ s p q = p ∙ sym q
+
+-- ---- refusal
+
+number-one : Single number.Post
+number-one κs a r r′ s p q = p ∙ sym q
+
+amount-one : Single amount.Post
+amount-one κs a r r′ s p q = p ∙ sym q
 
 -- ---- flags
 
@@ -244,7 +254,7 @@ parse-one κs a r r′ s s′ p q =
 parse-avp-one : (κs : _) (a : _) (r r′ : _) (s s′ : _) → parse-avp.Post κs a r s → parse-avp.Post κs a r′ s′
     → (r ≡ r′) × (now (s .1 .1 .1 .0) ≡ now (s′ .1 .1 .1 .0))
 parse-avp-one κs a r r′ s s′ p q =
-    let e = diameter-answers.avp-answer-of-injective r r′ (p .0 ∙ sym (q .0)) in
+    let e = avps-answers.answer-of-injective r r′ (p .0 ∙ sym (q .0)) in
     let at-exit = p .1 in
     let at-exit′ = q .1 in
     (e, cc)

@@ -8,7 +8,7 @@ ghost use lib.Seq.{sets};
 ghost use lib.Dec.{leb};
 ghost use Rattle.octets.specs.Octets.{octets, pack, over};
 ghost use Rattle.rfc6733.specs.Record.{recordSize, layout};
-ghost use Rattle.rfc6733.specs.Writer.{recordAt};
+ghost use Rattle.rfc6733.specs.Writer.{entryAt};
 ghost use Rattle.record.specs.Stored.{recordAs, put};
 
 pub struct Record {
@@ -149,7 +149,7 @@ impl Record {
     // Bytes 18, 23 and 24 to 31 are not read.
     fn fields(table: &[u8]) -> Record
         requires { ⌜ recordSize ≤ length (now table) ⌝ }
-        ensures { λ r. ⌜ recordAs r ≡ recordAt (now (table .entry)) ⌝ }
+        ensures { λ r. ⌜ recordAs r ≡ entryAt (now (table .entry)) ⌝ }
     {
         Record {
             code: octets::be_u32(table[0], table[1], table[2], table[3]),
@@ -169,7 +169,7 @@ impl Record {
     /// The record at the front of a table, as the writer takes it: with no errors and no value.
     /// A byte that is absent counts as 0.
     pub fn get(table: &[u8]) -> Record
-        ensures { λ r. ⌜ recordAs r ≡ recordAt (now (table .entry)) ⌝ }
+        ensures { λ r. ⌜ recordAs r ≡ entryAt (now (table .entry)) ⌝ }
     {
         if table.len() < Self::SIZE {
             return Self::fields(&Self::padded(table));

@@ -1,8 +1,8 @@
 // Answers framed cases from standard input on standard output: the bridge to the oracle and, with the frames kept beside it, a
 // test of the decoders. oracle/README.md has the frame and the answer. It stops at the end of the input or at a frame that it can't hold.
 use attribute::Reading;
+use avps::Filled;
 use diameter::Decoded;
-use diameter::DecodedAvp;
 use header::Header;
 use header::Parsed;
 use record::Record;
@@ -70,13 +70,7 @@ fn message(reading: Reading, limit: usize, input: &[u8], store: &mut [u8]) {
             write_header(m.header);
             write_counts(m.flags, m.records, m.tried, m.length);
         }
-        Decoded::Incomplete(n) => write_refusal(1, n),
-        Decoded::NotVersion => write_refusal(2, 0),
-        Decoded::BadLength => write_refusal(3, 0),
-        Decoded::NotTiled => write_refusal(4, 0),
-        Decoded::TooDeep => write_refusal(5, 0),
-        Decoded::NoRecords(n) => write_refusal(6, n),
-        Decoded::BadDepth => write_refusal(7, 0),
+        Decoded::Refused(why) => write_refusal(why.number(), why.amount()),
     }
 }
 
@@ -87,23 +81,17 @@ fn header_alone(input: &[u8]) {
             write_header(header);
             write_counts(flags, 0, 0, Header::SIZE);
         }
-        Parsed::Incomplete(n) => write_refusal(1, n),
-        Parsed::NotVersion => write_refusal(2, 0),
-        Parsed::BadLength => write_refusal(3, 0),
+        Parsed::Refused(why) => write_refusal(why.number(), why.amount()),
     }
 }
 
 fn one_avp(reading: Reading, limit: usize, input: &[u8], store: &mut [u8]) {
     match diameter::parse_avp(reading, limit, input, store) {
-        DecodedAvp::Accepted(one) => {
+        Filled::Accepted(one) => {
             write_refusal(0, 0);
             write_counts(one.flags, one.records, one.tried, one.length);
         }
-        DecodedAvp::Incomplete(n) => write_refusal(1, n),
-        DecodedAvp::BadLength => write_refusal(3, 0),
-        DecodedAvp::TooDeep => write_refusal(5, 0),
-        DecodedAvp::NoRecords(n) => write_refusal(6, n),
-        DecodedAvp::BadDepth => write_refusal(7, 0),
+        Filled::Refused(why) => write_refusal(why.number(), why.amount()),
     }
 }
 
@@ -128,10 +116,7 @@ fn write_written(w: Written) {
             write_refusal(0, 0);
             write_count(total);
         }
-        Written::BadHeader => write_refusal(8, 0),
-        Written::BadTable(index) => write_refusal(9, index),
-        Written::TooLong => write_refusal(10, 0),
-        Written::NoRoom(total) => write_refusal(11, total),
+        Written::Refused(why) => write_refusal(why.number(), why.amount()),
     }
 }
 

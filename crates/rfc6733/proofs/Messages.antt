@@ -9,24 +9,12 @@ use native.Mathlib.Omega.{arith}
 use lib.ListN.{length, take, drop, length-append}
 use lib.Seq.{drop-at, take-all}
 use borrow.Author.Tests.{le-ltb, eq-eqb}
-use Rattle.octets.specs.Octets.{be, Field, field, pack}
+use Rattle.octets.specs.Octets.{be, field, pack}
 use Rattle.octets.proofs.Numbers.{length-pack, read-field}
 use Rattle.rfc6733.specs.Answer.{passes}
 use Rattle.rfc6733.specs.Header.{messageLength, headerRefusals}
 use Rattle.rfc6733.specs.Decoder.{messageBody}
-use Rattle.rfc6733.specs.Writer.{Fields, most24, messageBytes}
-
--- the fields of a message's header
-abbrev headerFields : Fields → ℕ → List Field
-headerFields f n =
-    field 1 1
-    ∷ field 3 n
-    ∷ field 1 (f .flags)
-    ∷ field 3 (f .code)
-    ∷ field 4 (f .appId)
-    ∷ field 4 (f .hopId)
-    ∷ field 4 (f .endId)
-    ∷ []
+use Rattle.rfc6733.specs.Writer.{Fields, most24, headerFields, messageBytes}
 
 pub record Read (s body : List ℕ) : Type 0 where
   pub length-is : length s ≡ 20 + length body

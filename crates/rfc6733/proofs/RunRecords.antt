@@ -64,7 +64,7 @@ module _ (D : Dictionary) (bytes levels : ℕ) where
   record-moved : (place depth : ℕ) (a : List ℕ) (v : Value)
       → recordOf (bytes + place) (levels + depth) a v ≡ moved bytes levels (recordOf place depth a v)
   unfolding recordOf moved
-  record-moved place depth a v = rw add-assoc
+  record-moved place depth a v = rw (add-assoc bytes place (avp.headSize (avp.flags a)))
 
   members-moved : (b : Bool) (f : Record → Record) (rs ts : List Record) → rs ≡ map f ts → cond b rs [] ≡ map f (cond b ts [])
   members-moved true f rs ts e = e

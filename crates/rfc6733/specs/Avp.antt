@@ -3,23 +3,37 @@
 use Prim.Native.Nat.{ℕ, _+_, _-_, _%_, _^_}
 use mathlib.Core.Path.{_≡_}
 use mathlib.Core.Bool.{Bool, true, cond}
-use mathlib.Core.List.{List, [], _∷_}
-use lib.ListN.{length, take, drop}
+use mathlib.Core.List.{List, [], _∷_, _++_}
+use lib.ListN.{length, take, drop, getD}
 use lib.Dec.{ltb}
-use Rattle.octets.specs.Octets.{be}
+use Rattle.octets.specs.Octets.{be, Field, Layout, total, fieldsOf, valueAt}
 use Rattle.rfc6733.specs.Answer.{Refusal, refuse, incomplete, badLength, passes}
 use Rattle.rfc6733.specs.Flags.{bit}
 
--- code 4 bytes, flags 1, length 3
+-- the header; the last field is there with the vendor bit alone
+pub record Head : Type 0 where
+  pub code : ℕ
+  pub flags : ℕ
+  -- of the header and the data, and not of the padding
+  pub length : ℕ
+  pub vendor : ℕ
+
+abbrev pub headLayout : Layout Head
+headLayout =
+    record {
+      sizes = 4 ∷ 1 ∷ 3 ∷ 4 ∷ [];
+      numbers = λ h. h .code ∷ h .flags ∷ h .length ∷ h .vendor ∷ [];
+      made = λ ns. record { code = getD ns 0 0; flags = getD ns 1 0; length = getD ns 2 0; vendor = getD ns 3 0 };
+    }
+
 abbrev pub code : List ℕ → ℕ
-code a = be 4 a 0
+code a = valueAt headLayout a .code
 
 abbrev pub flags : List ℕ → ℕ
-flags a = be 1 a 4
+flags a = valueAt headLayout a .flags
 
--- the length counts the header and the data, and not the padding
 abbrev pub avpLength : List ℕ → ℕ
-avpLength a = be 3 a 5
+avpLength a = valueAt headLayout a .length
 
 -- the AVP flags, V M P and five that are reserved
 abbrev pub vendorBit : ℕ
@@ -36,11 +50,15 @@ avpReserved f = f % 2 ^ 5
 
 -- the header is 8 bytes, and 12 with the vendor bit
 unfoldable pub headSize : ℕ → ℕ
-headSize f = cond (bit vendorBit f) 12 8
+headSize f = cond (bit vendorBit f) (total (headLayout .sizes)) (total (take 3 (headLayout .sizes)))
+
+-- the fields of a header
+abbrev pub headFields : Head → List Field
+headFields h = let all = fieldsOf headLayout h in take 3 all ++ cond (bit vendorBit (h .flags)) (drop 3 all) []
 
 -- the vendor, and 0 without the bit
 unfoldable pub vendor : List ℕ → ℕ
-vendor a = cond (bit vendorBit (flags a)) (be 4 a 8) 0
+vendor a = cond (bit vendorBit (flags a)) (valueAt headLayout a .vendor) 0
 
 -- how many bytes of data
 unfoldable pub dataSize : List ℕ → ℕ

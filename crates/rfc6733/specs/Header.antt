@@ -3,13 +3,12 @@
 use Prim.Native.Nat.{ℕ, _-_, _%_, _^_}
 use mathlib.Core.Bool.{not}
 use mathlib.Core.List.{List, [], _∷_}
-use lib.ListN.{length}
+use lib.ListN.{length, getD}
 use lib.Dec.{ltb, eqb}
-use Rattle.octets.specs.Octets.{be}
+use Rattle.octets.specs.Octets.{be, Layout, total, valueAt}
 use Rattle.rfc6733.specs.Flags.{nonZeroReserved, flag}
 use Rattle.rfc6733.specs.Answer.{Refusal, refuse, incomplete, notVersion, badLength}
 
--- version 1 byte, length 3, flags 1, command code 3, application 4, hop-by-hop 4, end-to-end 4
 pub record Header : Type 0 where
   pub version : ℕ
   pub length : ℕ
@@ -19,24 +18,33 @@ pub record Header : Type 0 where
   pub hopId : ℕ
   pub endId : ℕ
 
+abbrev pub headerLayout : Layout Header
+headerLayout =
+    record {
+      sizes = 1 ∷ 3 ∷ 1 ∷ 3 ∷ 4 ∷ 4 ∷ 4 ∷ [];
+      numbers = λ h. h .version ∷ h .length ∷ h .flags ∷ h .code ∷ h .appId ∷ h .hopId ∷ h .endId ∷ [];
+      made =
+          λ ns.
+          record {
+            version = getD ns 0 0;
+            length = getD ns 1 0;
+            flags = getD ns 2 0;
+            code = getD ns 3 0;
+            appId = getD ns 4 0;
+            hopId = getD ns 5 0;
+            endId = getD ns 6 0;
+          };
+    }
+
 abbrev pub headerSize : ℕ
-headerSize = 20
+headerSize = total (headerLayout .sizes)
+
+unfoldable pub headerOf : List ℕ → Header
+headerOf s = valueAt headerLayout s
 
 -- the length that the header states, of the whole message
 abbrev pub messageLength : List ℕ → ℕ
-messageLength s = be 3 s 1
-
-unfoldable pub headerOf : List ℕ → Header
-headerOf s =
-    record {
-      version = be 1 s 0;
-      length = messageLength s;
-      flags = be 1 s 4;
-      code = be 3 s 5;
-      appId = be 4 s 8;
-      hopId = be 4 s 12;
-      endId = be 4 s 16;
-    }
+messageLength s = valueAt headerLayout s .length
 
 -- the command flags, R P E T and four that are reserved
 abbrev pub requestBit : ℕ
@@ -60,13 +68,13 @@ avpsLength n = n - headerSize
 
 -- the header's own error flags: its reserved bits
 unfoldable pub headerErrors : List ℕ → ℕ
-headerErrors s = flag (not (eqb (headerReserved (be 1 s 4)) 0)) nonZeroReserved
+headerErrors s = flag (not (eqb (headerReserved (valueAt headerLayout s .flags)) 0)) nonZeroReserved
 
 -- its refusals, in order
 unfoldable pub headerRefusals : List ℕ → List Refusal
 headerRefusals s =
     refuse (ltb (length s) 1) incomplete 1
-    ∷ refuse (not (eqb (be 1 s 0) 1)) notVersion 0
+    ∷ refuse (not (eqb (valueAt headerLayout s .version) 1)) notVersion 0
     ∷ refuse (ltb (length s) 4) incomplete (4 - length s)
     ∷ refuse (ltb (messageLength s) 4) badLength 0
     ∷ refuse (ltb (length s) (messageLength s)) incomplete (messageLength s - length s)

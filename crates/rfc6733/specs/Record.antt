@@ -3,9 +3,9 @@
 use Prim.Native.Nat.{ℕ, _+_}
 use mathlib.Core.Bool.{Bool, false, cond, not}
 use mathlib.Core.List.{List, [], _∷_, _++_}
-use lib.ListN.{length}
+use lib.ListN.{length, getD}
 use lib.Dec.{eqb}
-use Rattle.octets.specs.Octets.{Field, field, pack}
+use Rattle.octets.specs.Octets.{Field, pack, Layout, total, fieldsOf, valueAt}
 use Rattle.octets.specs.Run.{Format, Tree, done, broken, plain, group, tree, tiles}
 use Rattle.rfc6733.specs.Flags.{dataValue, nonZeroReserved, nonZeroPadding, flag, join}
 use Rattle.rfc6733.specs.Avp as avp
@@ -27,28 +27,42 @@ pub record Record : Type 0 where
   pub pads : ℕ
   pub value : ℕ
 
-abbrev pub recordSize : ℕ
-recordSize = 32
-
 -- the layout; byte 23 is zero
+abbrev pub recordLayout : Layout Record
+recordLayout =
+    record {
+      sizes = 4 ∷ 1 ∷ 3 ∷ 4 ∷ 4 ∷ 1 ∷ 1 ∷ 1 ∷ 1 ∷ 3 ∷ 1 ∷ 8 ∷ [];
+      numbers =
+          λ r. r .code ∷ r .flags ∷ r .length ∷ r .vendor ∷ r .place ∷ r .depth ∷ r .kind ∷ r .errors ∷ r .padding ∷ r .pads ∷ 0 ∷ r .value ∷ [];
+      made =
+          λ ns.
+          record {
+            code = getD ns 0 0;
+            flags = getD ns 1 0;
+            length = getD ns 2 0;
+            vendor = getD ns 3 0;
+            place = getD ns 4 0;
+            depth = getD ns 5 0;
+            kind = getD ns 6 0;
+            errors = getD ns 7 0;
+            padding = getD ns 8 0;
+            pads = getD ns 9 0;
+            value = getD ns 11 0;
+          };
+    }
+
+abbrev pub recordSize : ℕ
+recordSize = total (recordLayout .sizes)
+
 abbrev pub layout : Record → List Field
-layout r =
-    field 4 (r .code)
-    ∷ field 1 (r .flags)
-    ∷ field 3 (r .length)
-    ∷ field 4 (r .vendor)
-    ∷ field 4 (r .place)
-    ∷ field 1 (r .depth)
-    ∷ field 1 (r .kind)
-    ∷ field 1 (r .errors)
-    ∷ field 1 (r .padding)
-    ∷ field 3 (r .pads)
-    ∷ field 1 0
-    ∷ field 8 (r .value)
-    ∷ []
+layout r = fieldsOf recordLayout r
 
 unfoldable pub recordBytes : Record → List ℕ
 recordBytes r = pack (layout r)
+
+-- the record at the front of a table
+unfoldable pub recordAt : List ℕ → Record
+recordAt s = valueAt recordLayout s
 
 -- a table of records
 abbrev pub laid : List Record → List ℕ

@@ -5,12 +5,13 @@ use mathlib.Core.Bool.{Bool, true, cond, not, _&&_, _||_}
 use mathlib.Core.List.{List, [], _∷_, _++_}
 use lib.ListN.{length, take, drop}
 use lib.Dec.{leb, ltb, eqb}
-use Rattle.octets.specs.Octets.{be, octets, field, pack, over}
+use Rattle.octets.specs.Octets.{octets, Field, pack, over, fieldsOf}
 use Rattle.rfc6733.specs.Answer.{Answer, accepted, refused, refuse, answer, badHeader, badTable, tooLong, noRoom}
 use Rattle.rfc6733.specs.Flags.{bit}
 use Rattle.rfc6733.specs.Avp as avp
+use Rattle.rfc6733.specs.Header.{Header, headerLayout}
 use Rattle.rfc6733.specs.Value.{grouped, time}
-use Rattle.rfc6733.specs.Record.{Record, recordSize}
+use Rattle.rfc6733.specs.Record.{Record, recordSize, recordAt}
 use Rattle.rfc6733.specs.Forest.{Forest, none, node, forest}
 
 -- the header fields that the writer takes
@@ -23,27 +24,31 @@ pub record Fields : Type 0 where
 
 -- ---- the table
 
--- the record at the front of a table: bytes 18, 23 and 24..31 are ignored
-unfoldable pub recordAt : List ℕ → Record
-recordAt s =
+-- the writer takes neither error flags nor value
+unfoldable pub bare : Record → Record
+bare r =
     record {
-      code = be 4 s 0;
-      flags = be 1 s 4;
-      length = be 3 s 5;
-      vendor = be 4 s 8;
-      place = be 4 s 12;
-      depth = be 1 s 16;
-      kind = be 1 s 17;
+      code = r .code;
+      flags = r .flags;
+      length = r .length;
+      vendor = r .vendor;
+      place = r .place;
+      depth = r .depth;
+      kind = r .kind;
       errors = 0;
-      padding = be 1 s 19;
-      pads = be 3 s 20;
+      padding = r .padding;
+      pads = r .pads;
       value = 0;
     }
+
+-- the record at the front of a table, as it takes it
+unfoldable pub entryAt : List ℕ → Record
+entryAt s = bare (recordAt s)
 
 -- the first n records of a table
 unfoldable pub recordsIn : ℕ → List ℕ → List Record
 recordsIn zero s = []
-recordsIn (suc n) s = recordAt s ∷ recordsIn n (drop recordSize s)
+recordsIn (suc n) s = entryAt s ∷ recordsIn n (drop recordSize s)
 
 unfoldable pub tableOf : List ℕ → List Record
 tableOf s = recordsIn (length s / recordSize) s
@@ -94,35 +99,38 @@ keepers allowed n (r ∷ rs) = let more = keepers (allowedAfter r) n rs in cond 
 
 -- ---- the bytes
 
+-- the fields of the header of an AVP whose length is n
+abbrev pub headFields : Record → ℕ → List Field
+headFields r n = avp.headFields (record { code = r .code; flags = r .flags; length = n; vendor = r .vendor })
+
+-- the padding
+abbrev pub padBytes : Record → List ℕ
+padBytes r = take (r .padding) (octets 3 (r .pads))
+
 -- an AVP with its data: the length is computed
 unfoldable pub avpBytes : Record → List ℕ → List ℕ
-avpBytes r body =
-    pack
-    (field 4 (r .code)
-    ∷ field 1 (r .flags)
-    ∷ field 3 (headOf r + length body)
-    ∷ cond (bit avp.vendorBit (r .flags)) (field 4 (r .vendor) ∷ []) [])
-    ++ (body ++ take (r .padding) (octets 3 (r .pads)))
+avpBytes r body = pack (headFields r (headOf r + length body)) ++ (body ++ padBytes r)
 
--- the data of a record that is no group stand in the bytes that places point into; a group's are its members
+-- the data: the members' bytes of a group, and what the place of another points at
+abbrev pub bodyOf : List ℕ → Record → List ℕ → List ℕ
+bodyOf pool r members = cond (isGroup r) members (take (statedData r) (drop (r .place) pool))
+
 abbrev pub forestBytes : List ℕ → Forest → List ℕ
 forestBytes pool none = []
-forestBytes pool (node r members rest) =
-    avpBytes r (cond (isGroup r) (forestBytes pool members) (take (statedData r) (drop (r .place) pool))) ++ forestBytes pool rest
+forestBytes pool (node r members rest) = avpBytes r (bodyOf pool r (forestBytes pool members)) ++ forestBytes pool rest
 
--- a message with these AVPs; its length is computed, and its version is 1
+-- the header of a message of n bytes
+abbrev pub headerWith : ℕ → Fields → ℕ → Header
+headerWith version f n =
+    record { version = version; length = n; flags = f .flags; code = f .code; appId = f .appId; hopId = f .hopId; endId = f .endId }
+
+-- its fields, with version 1
+abbrev pub headerFields : Fields → ℕ → List Field
+headerFields f n = fieldsOf headerLayout (headerWith 1 f n)
+
+-- a message with these AVPs; its length is computed
 unfoldable pub messageBytes : Fields → List ℕ → List ℕ
-messageBytes f body =
-    pack
-    (field 1 1
-    ∷ field 3 (20 + length body)
-    ∷ field 1 (f .flags)
-    ∷ field 3 (f .code)
-    ∷ field 4 (f .appId)
-    ∷ field 4 (f .hopId)
-    ∷ field 4 (f .endId)
-    ∷ [])
-    ++ body
+messageBytes f body = pack (headerFields f (20 + length body)) ++ body
 
 -- ---- the answer
 

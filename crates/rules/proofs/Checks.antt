@@ -13,7 +13,7 @@ use Rattle.rfc6733.specs.Flags.{bit}
 use Rattle.rfc6733.specs.Avp.{vendorBit, padding}
 use Rattle.rfc6733.specs.Value.{time}
 use Rattle.rfc6733.specs.Record.{Record, recordSize}
-use Rattle.rfc6733.specs.Writer.{recordAt, tableOf, isGroup, headOf, statedData, keeps, keepers, allowedAfter}
+use Rattle.rfc6733.specs.Writer.{entryAt, tableOf, isGroup, headOf, statedData, keeps, keepers, allowedAfter}
 use Rattle.table.proofs.Rules.{keeps-good}
 use Rattle.table.proofs.Tables.{table-none, table-some}
 use Rattle.rules.specs.Rules.{keepsLeaf}
@@ -115,13 +115,13 @@ module _ (allowed n : ℕ) (table : List ℕ) (k : ℕ) (some : k < length table
       let e : k * recordSize + recordSize ≡ (k + 1) * recordSize = omega arith in
       drop-drop recordSize (k * recordSize) table ∙ ap (λ (x : ℕ). drop x table) e
 
-  pub stops : keeps allowed n (recordAt (drop (k * recordSize) table)) ≡ false
+  pub stops : keeps allowed n (entryAt (drop (k * recordSize) table)) ≡ false
       → keepers allowed n (tableOf (drop (k * recordSize) table)) ≡ 0
   stops e = rw (table-some (drop (k * recordSize) table) here-long) (rw e)
 
-  pub one-more : keeps allowed n (recordAt (drop (k * recordSize) table)) ≡ true
+  pub one-more : keeps allowed n (entryAt (drop (k * recordSize) table)) ≡ true
       → keepers allowed n (tableOf (drop (k * recordSize) table))
-      ≡ suc (keepers (allowedAfter (recordAt (drop (k * recordSize) table))) n (tableOf (drop ((k + 1) * recordSize) table)))
+      ≡ suc (keepers (allowedAfter (entryAt (drop (k * recordSize) table))) n (tableOf (drop ((k + 1) * recordSize) table)))
   one-more e = rw (table-some (drop (k * recordSize) table) here-long, ← next-is) (rw e)
 
 pub none-left : (allowed n : ℕ) (table : List ℕ) (k : ℕ) → length table / recordSize ≤ k

@@ -11,18 +11,18 @@ use lib.Seq.{drop-drop}
 use lib.Dec.{eqb}
 use Rattle.octets.specs.Octets.{be, field, pack, Bytes}
 use Rattle.octets.proofs.Numbers.{be-small}
+use Rattle.octets.proofs.Layouts.{pack-unpack}
 use Rattle.rfc6733.specs.Flags.{bit}
 use Rattle.rfc6733.specs.Avp.{flags, avpLength, vendorBit, headSize, vendor, dataSize, padding, payload, pads, Exact}
 use Rattle.rfc6733.specs.Value.{Value, grouped, time}
 use Rattle.rfc6733.specs.Record.{Record, recordOf}
-use Rattle.rfc6733.specs.Writer.{isGroup, headOf, statedData, avpBytes}
+use Rattle.rfc6733.specs.Writer.{bare, isGroup, headOf, statedData, avpBytes, headFields, padBytes}
 use Rattle.rfc6733.proofs.Complete.{head, sizes, complete-whole}
 use Rattle.rfc6733.proofs.Items.{payload-length}
-use Rattle.table.specs.Parts.{headFields, padBytes}
 use Rattle.table.specs.Rules.{Good}
-use Rattle.table.specs.Tables.{bare, Fits}
+use Rattle.table.specs.Tables.{Fits}
 use Rattle.table.proofs.Lengths.{no-padding}
-use Rattle.table.proofs.Packed.{bytes-drop, packed-again}
+use Rattle.table.proofs.Packed.{bytes-drop}
 use Rattle.table.proofs.Pads.{pads-written, pads-unused}
 
 -- ---- the parts of an AVP
@@ -39,11 +39,10 @@ three h n a =
 
 header-by : (b : Bool) (a : List ℕ) → cond b 12 8 ≤ length a → Bytes a
     → pack (field 4 (be 4 a 0) ∷ field 1 (be 1 a 4) ∷ field 3 (be 3 a 5) ∷ cond b (field 4 (cond b (be 4 a 8) 0) ∷ []) []) ≡ take (cond b 12 8) a
-header-by true a h b = packed-again (4 ∷ 1 ∷ 3 ∷ 4 ∷ []) a 0 h b
-header-by false a h b = packed-again (4 ∷ 1 ∷ 3 ∷ []) a 0 h b
+header-by true a h b = pack-unpack (4 ∷ 1 ∷ 3 ∷ 4 ∷ []) a 0 h b
+header-by false a h b = pack-unpack (4 ∷ 1 ∷ 3 ∷ []) a 0 h b
 
 module _ (place depth : ℕ) (a : List ℕ) (v : Value) where
-  -- the record as the writer reads it
   abbrev pub own : Record
   own = bare (recordOf place depth a v)
 
@@ -149,14 +148,6 @@ module _ (place depth : ℕ) (a : List ℕ) (v : Value) where
         let w = complete-whole a (exact .whole) in
         let z = sizes a in
         let h = head (flags a) in
-        record {
-          code-fits = be-small 4 a 0 bytes;
-          flags-fit = be-small 1 a 4 bytes;
-          length-fits = be-small 3 a 5 bytes;
-          vendor-fits = vendor-small bytes;
-          place-fits = omega (arith, exact .size-is);
-          depth-fits = omega arith;
-          kind-fits = omega arith;
-          padding-fits = omega arith;
-          pads-fit = be-small 3 (padsAt a) 0 (bytes-drop (avpLength a) a bytes);
-        }
+        let place-fits : place + headSize (flags a) < 256 ^ 4 = omega (arith, exact .size-is) in
+        let pads-fit = be-small 3 (padsAt a) 0 (bytes-drop (avpLength a) a bytes) in
+        (be-small 4 a 0 bytes, (be-small 1 a 4 bytes, (be-small 3 a 5 bytes, (vendor-small bytes, (place-fits, (omega arith, (omega arith, (omega arith, (omega arith, (pads-fit, (omega arith, (omega arith, tt))))))))))))

@@ -7,15 +7,15 @@ use mathlib.Core.Bool.{Bool, true, false, cond}
 use mathlib.Core.List.{List, [], _∷_, _++_}
 use native.Mathlib.Nat.{zero-mod}
 use native.Mathlib.Omega.{arith}
-use lib.ListN.{length, take, drop}
+use lib.ListN.{length, getD, take, drop}
 use lib.Seq.{take-at, drop-at, drop-drop}
 use Rattle.octets.specs.Octets.{be, Field, field, pack}
+use Rattle.octets.proofs.Layouts.{fit-at}
 use Rattle.rfc6733.specs.Flags.{bit}
 use Rattle.rfc6733.specs.Avp.{code, flags, avpLength, vendorBit, headSize, vendor, dataSize, padding, payload, pads, Exact}
-use Rattle.rfc6733.specs.Record.{Record}
-use Rattle.rfc6733.specs.Writer.{isGroup, headOf, avpBytes}
+use Rattle.rfc6733.specs.Record.{Record, recordLayout}
+use Rattle.rfc6733.specs.Writer.{bare, isGroup, headOf, avpBytes, headFields, padBytes}
 use Rattle.rfc6733.proofs.Complete.{sizes, whole-complete}
-use Rattle.table.specs.Parts.{headFields, padBytes}
 use Rattle.table.specs.Rules.{Good}
 use Rattle.table.specs.Tables.{Fits}
 use Rattle.table.specs.Tops.{topOf, topRecord}
@@ -42,6 +42,10 @@ unused-pads allowed n r g = by (isGroup r) refl
 
 module _ (allowed most : ℕ) (r : Record) (inside : List ℕ) (good : Good allowed most r) (fits : Fits r) (padded : Padded r (length inside))
     (short : headOf r + length inside < 256 ^ 3) where
+  -- the number at a position of the record fits
+  fit : (k : ℕ) → getD (recordLayout .numbers (bare r)) k 0 < 256 ^ getD (recordLayout .sizes) k 0
+  fit = fit-at (recordLayout .sizes) (recordLayout .numbers (bare r)) fits
+
   abbrev own : List ℕ
   own = avpBytes r inside
 
@@ -55,26 +59,26 @@ module _ (allowed most : ℕ) (r : Record) (inside : List ℕ) (good : Good allo
   more = inside ++ padBytes r
 
   code-back : code own ≡ r .code
-  unfolding avpBytes
-  code-back = field-back fields [] 4 (r .code) (drop 1 fields) more refl (fits .code-fits)
+  unfolding avpBytes bare
+  code-back = field-back fields [] 4 (r .code) (drop 1 fields) more refl (fit 0)
 
   flags-back : flags own ≡ r .flags
-  unfolding avpBytes
-  flags-back = field-back fields (take 1 fields) 1 (r .flags) (drop 2 fields) more refl (fits .flags-fit)
+  unfolding avpBytes bare
+  flags-back = field-back fields (take 1 fields) 1 (r .flags) (drop 2 fields) more refl (fit 1)
 
   length-back : avpLength own ≡ n
   unfolding avpBytes
   length-back = field-back fields (take 2 fields) 3 n (drop 3 fields) more refl short
 
   vendor-back : vendor own ≡ r .vendor
-  unfolding avpBytes vendor
+  unfolding avpBytes vendor bare
   vendor-back = ap (λ (x : ℕ). cond (bit vendorBit x) (be 4 own 8) 0) flags-back ∙ by (bit vendorBit (r .flags)) refl
     where
       by : (b : Bool) → bit vendorBit (r .flags) ≡ b
           → cond b (be 4 (pack (field 4 (r .code) ∷ field 1 (r .flags) ∷ field 3 n ∷ cond b (field 4 (r .vendor) ∷ []) []) ++ more) 8) 0 ≡ r .vendor
       by true e =
           let three = field 4 (r .code) ∷ field 1 (r .flags) ∷ field 3 n ∷ [] in
-          field-back (three ++ (field 4 (r .vendor) ∷ [])) three 4 (r .vendor) [] more refl (fits .vendor-fits)
+          field-back (three ++ (field 4 (r .vendor) ∷ [])) three 4 (r .vendor) [] more refl (fit 3)
       by false e = sym (good .no-vendor e)
 
   head-back : headSize (flags own) ≡ headOf r
@@ -96,10 +100,10 @@ module _ (allowed most : ℕ) (r : Record) (inside : List ℕ) (good : Good allo
   padding-back = ap padding data-back ∙ sym (padded .is)
 
   pads-back : pads own ≡ r .pads
-  unfolding pads
+  unfolding pads bare
   pads-back =
       ap (λ (s : List ℕ). be 3 s 0) (ap (λ (x : ℕ). drop x own) length-back ∙ parts .1)
-      ∙ pads-read (r .padding) (r .pads) (padded .few) (fits .pads-fit) (unused-pads allowed most r good)
+      ∙ pads-read (r .padding) (r .pads) (padded .few) (fit 9) (unused-pads allowed most r good)
 
   pub exact-back : Exact own
   exact-back =

@@ -14,11 +14,10 @@ use Rattle.rfc6733.specs.Avp.{flags, headSize, dataSize, payload, Exact}
 use Rattle.rfc6733.specs.Value.{Value, value, grouped, time}
 use Rattle.rfc6733.specs.Forest as table
 use Rattle.rfc6733.specs.Forest.{Forest, none, flat}
-use Rattle.rfc6733.specs.Writer.{statedData, forestBytes}
+use Rattle.rfc6733.specs.Writer.{statedData, forestBytes, bodyOf}
 use Rattle.rfc6733.proofs.Complete.{head, sizes, complete-whole}
 use Rattle.rfc6733.proofs.Items.{payload-length}
 use Rattle.table.specs.Forests.{size}
-use Rattle.table.specs.Parts.{bodyOf}
 use Rattle.table.specs.Tables.{AllFit}
 use Rattle.table.specs.Trip.{Ungrouped}
 use Rattle.table.proofs.Rules.{good-keeps}

@@ -16,11 +16,10 @@ use Rattle.rfc6733.specs.Dictionary.{Dictionary}
 use Rattle.rfc6733.specs.Record.{avps}
 use Rattle.rfc6733.specs.Forest as table
 use Rattle.rfc6733.specs.Forest.{Forest, none, flat}
-use Rattle.rfc6733.specs.Writer.{avpBytes, forestBytes}
+use Rattle.rfc6733.specs.Writer.{avpBytes, forestBytes, bodyOf}
 use Rattle.rfc6733.proofs.Complete.{complete-whole, whole-complete}
 use Rattle.rfc6733.proofs.Items.{sound}
 use Rattle.table.specs.Forests.{size}
-use Rattle.table.specs.Parts.{bodyOf}
 use Rattle.table.specs.Rules.{Kept}
 use Rattle.table.specs.Tables.{AllFit}
 use Rattle.table.specs.Tops.{Top, topOf, tops, topRecords}

@@ -2,34 +2,25 @@
 -- and length, are those that were read.
 -- Assumes nothing.
 use Prim.Native.Nat.{ℕ, _+_, _-_, _≤_}
-use mathlib.Core.Path.{_≡_, sym, ap, ap₂, _∙_}
-use mathlib.Core.List.{List, [], _∷_, _++_}
+use mathlib.Core.Path.{_≡_, refl, sym, ap, ap₂, _∙_}
+use mathlib.Core.List.{List, _++_}
 use native.Mathlib.Omega.{arith}
 use lib.ListN.{length, take, drop, length-drop}
 use lib.Seq.{length-take-le, take-add}
-use Rattle.octets.specs.Octets.{be, Field, field, pack, Bytes}
-use Rattle.rfc6733.specs.Header.{messageLength, headerOf}
+use Rattle.octets.specs.Octets as layout
+use Rattle.octets.specs.Octets.{be, pack, Bytes}
+use Rattle.octets.proofs.Layouts.{bytes-back}
+use Rattle.rfc6733.specs.Header.{headerLayout, messageLength, headerOf}
 use Rattle.rfc6733.specs.Decoder.{messageBody}
-use Rattle.rfc6733.specs.Writer.{messageBytes}
+use Rattle.rfc6733.specs.Writer.{headerWith, headerFields, messageBytes}
 use Rattle.rfc6733.proofs.Accepted.{Headed}
 use Rattle.table.specs.Trip.{fieldsOf}
-use Rattle.table.proofs.Packed.{packed-again}
 
--- the header of s, with another version and length
-abbrev headerWith : List ℕ → ℕ → ℕ → List Field
-headerWith s version n =
-    field 1 version
-    ∷ field 3 n
-    ∷ field 1 (be 1 s 4)
-    ∷ field 3 (be 3 s 5)
-    ∷ field 4 (be 4 s 8)
-    ∷ field 4 (be 4 s 12)
-    ∷ field 4 (be 4 s 16)
-    ∷ []
-
-header-again : (s : List ℕ) (n : ℕ) → Bytes s → 20 ≤ length s → be 1 s 0 ≡ 1 → n ≡ messageLength s → pack (headerWith s 1 n) ≡ take 20 s
+header-again : (s : List ℕ) (n : ℕ) → Bytes s → 20 ≤ length s → be 1 s 0 ≡ 1 → n ≡ messageLength s → pack (headerFields (fieldsOf (headerOf s)) n) ≡ take 20 s
+unfolding fieldsOf headerOf
 header-again s n b h version e =
-    ap₂ (λ (x y : ℕ). pack (headerWith s x y)) (sym version) e ∙ packed-again (1 ∷ 3 ∷ 1 ∷ 3 ∷ 4 ∷ 4 ∷ 4 ∷ []) s 0 h b
+    ap₂ (λ (x y : ℕ). pack (layout.fieldsOf headerLayout (headerWith x (fieldsOf (headerOf s)) y))) (sym version) e
+    ∙ bytes-back headerLayout s refl h b
 
 pub message-again : (s body : List ℕ) → Bytes s → Headed s → body ≡ messageBody s → messageBytes (fieldsOf (headerOf s)) body ≡ take (messageLength s) s
 unfolding messageBytes messageBody fieldsOf headerOf

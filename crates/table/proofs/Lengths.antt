@@ -14,10 +14,9 @@ use Rattle.rfc6733.specs.Flags.{bit}
 use Rattle.rfc6733.specs.Avp.{vendorBit, headSize, padding}
 use Rattle.rfc6733.specs.Record.{Record}
 use Rattle.rfc6733.specs.Forest.{Forest, none, node, forest}
-use Rattle.rfc6733.specs.Writer.{Fields, tableOf, isGroup, headOf, statedData, avpBytes, forestBytes, messageBytes, tableBytes}
+use Rattle.rfc6733.specs.Writer.{Fields, tableOf, isGroup, headOf, statedData, avpBytes, forestBytes, messageBytes, tableBytes, headerFields, headFields, padBytes, bodyOf}
 use Rattle.rfc6733.proofs.Complete.{head}
 use Rattle.table.specs.Forests.{size}
-use Rattle.table.specs.Parts.{headerFields, headFields, padBytes, bodyOf}
 use Rattle.table.specs.Rules.{Good, Valid, Kept}
 use Rattle.table.proofs.Kept.{valid-kept}
 

@@ -19,7 +19,7 @@ use Rattle.rfc6733.specs.Forest.{Forest, forest, flat}
 use Rattle.rfc6733.specs.Writer.{tableOf, forestBytes, messageBytes, tableBytes, most24, written}
 use Rattle.rfc6733.proofs.Accepted.{when-accepted}
 use Rattle.rfc6733.proofs.Layouts.{laid-length}
-use Rattle.table.specs.Tables.{bare}
+use Rattle.rfc6733.specs.Writer.{bare}
 use Rattle.table.specs.Trip.{fieldsOf, Lawful, forestOf}
 use Rattle.table.proofs.Packed.{bytes-take, bytes-drop}
 use Rattle.table.proofs.Headers.{message-again}

@@ -10,7 +10,7 @@ use Rattle.rfc6733.specs.Avp.{flags, headSize}
 use Rattle.rfc6733.specs.Dictionary.{Dictionary}
 use Rattle.rfc6733.specs.Record.{Record, valueOf, groupValue, recordOf, records}
 use Rattle.rfc6733.specs.Forest.{Forest, none, flat}
-use Rattle.table.specs.Tables.{bare}
+use Rattle.rfc6733.specs.Writer.{bare}
 use Rattle.table.specs.Trip.{forestOf}
 
 cond-map : (f : Record → Record) (b : Bool) (rs : List Record) (t : Forest) → map f rs ≡ flat t → map f (cond b rs []) ≡ flat (cond b t none)

@@ -7,13 +7,13 @@ use native.Mathlib.Omega.{arith}
 use lib.ListN.{length, drop, length-drop}
 use lib.Seq.{drop-drop}
 use Rattle.rfc6733.specs.Record.{recordSize}
-use Rattle.rfc6733.specs.Writer.{recordAt, recordsIn, tableOf}
+use Rattle.rfc6733.specs.Writer.{entryAt, recordsIn, tableOf}
 
 pub table-none : (s : List ℕ) → length s < recordSize → tableOf s ≡ []
 unfolding tableOf recordsIn
 table-none s h = let e : length s / recordSize ≡ 0 = omega arith in rw e
 
-pub table-some : (s : List ℕ) → recordSize ≤ length s → tableOf s ≡ recordAt s ∷ tableOf (drop recordSize s)
+pub table-some : (s : List ℕ) → recordSize ≤ length s → tableOf s ≡ entryAt s ∷ tableOf (drop recordSize s)
 unfolding tableOf recordsIn
 table-some s h =
     let e : length s / recordSize ≡ suc (length (drop recordSize s) / recordSize) = omega (arith, length-drop recordSize s) in

@@ -10,7 +10,7 @@ use lib.ListN.{length, drop, length-drop}
 use borrow.Author.Tests.{le-leb, lt-leb}
 use Rattle.rfc6733.specs.Record.{Record, recordSize}
 use Rattle.rfc6733.specs.Forest.{none, node, front, forest}
-use Rattle.rfc6733.specs.Writer.{recordAt, tableOf, isGroup, allowedAfter}
+use Rattle.rfc6733.specs.Writer.{entryAt, tableOf, isGroup, allowedAfter}
 use Rattle.table.specs.Forests.{count}
 use Rattle.table.specs.Rules.{Good, Valid}
 use Rattle.table.specs.Tables.{run, one}
@@ -25,9 +25,9 @@ pub run-end : (d : ℕ) (s : List ℕ) → length s < recordSize → run d s ≡
 unfolding run
 run-end d s h = rw (table-none s h)
 
-pub run-above : (d : ℕ) (s : List ℕ) → recordSize ≤ length s → recordAt s .depth < d → run d s ≡ none
+pub run-above : (d : ℕ) (s : List ℕ) → recordSize ≤ length s → entryAt s .depth < d → run d s ≡ none
 unfolding run
-run-above d s h e = rw (table-some s h) (rw (lt-leb d (recordAt s .depth) e))
+run-above d s h e = rw (table-some s h) (rw (lt-leb d (entryAt s .depth) e))
 
 -- nothing is deeper than what is allowed
 pub none-deeper : (d n : ℕ) (s : List ℕ) → Valid d n (tableOf s) → run (d + 1) s ≡ none
@@ -42,20 +42,20 @@ none-deeper d n s v = by (tableOf s) v
 
 -- the record at the front of s stands at the run's own depth d, and z is the table after it and its members
 pub record Turn (d n : ℕ) (s z : List ℕ) : Type 0 where
-  pub depth-is : recordAt s .depth ≡ d
-  pub good-here : Good d n (recordAt s)
-  pub one-is : one s ≡ node (recordAt s) (run (d + 1) (drop recordSize s)) none
-  pub run-is : run d s ≡ node (recordAt s) (run (d + 1) (drop recordSize s)) (run d z)
+  pub depth-is : entryAt s .depth ≡ d
+  pub good-here : Good d n (entryAt s)
+  pub one-is : one s ≡ node (entryAt s) (run (d + 1) (drop recordSize s)) none
+  pub run-is : run d s ≡ node (entryAt s) (run (d + 1) (drop recordSize s)) (run d z)
   pub fits : count (one s) * recordSize ≤ length s
-  pub valid-inside : isGroup (recordAt s) ≡ true → Valid (d + 1) n (tableOf (drop recordSize s))
-  pub none-inside : isGroup (recordAt s) ≡ false → run (d + 1) (drop recordSize s) ≡ none
+  pub valid-inside : isGroup (entryAt s) ≡ true → Valid (d + 1) n (tableOf (drop recordSize s))
+  pub none-inside : isGroup (entryAt s) ≡ false → run (d + 1) (drop recordSize s) ≡ none
   pub valid-after : Valid d n (tableOf z)
 
-module _ (d : ℕ) (s : List ℕ) (some : recordSize ≤ length s) (level : recordAt s .depth ≡ d) where
+module _ (d : ℕ) (s : List ℕ) (some : recordSize ≤ length s) (level : entryAt s .depth ≡ d) where
   abbrev others : List Record
   others = tableOf (drop recordSize s)
 
-  one-at : one s ≡ node (recordAt s) (run (d + 1) (drop recordSize s)) none
+  one-at : one s ≡ node (entryAt s) (run (d + 1) (drop recordSize s)) none
   unfolding one run
   one-at = rw (table-some s some) (rw level)
 
@@ -79,7 +79,7 @@ module _ (d : ℕ) (s : List ℕ) (some : recordSize ≤ length s) (level : reco
   rest-is : tableOf (drop (count (one s) * recordSize) s) ≡ drop (count (front (d + 1) (forest others))) others
   rest-is = table-drop (count (one s)) s one-fits ∙ ap₂ (λ (k : ℕ) (l : List Record). drop k l) count-one (table-some s some)
 
-  run-at : run d s ≡ node (recordAt s) (run (d + 1) (drop recordSize s)) (run d (drop (count (one s) * recordSize) s))
+  run-at : run d s ≡ node (entryAt s) (run (d + 1) (drop recordSize s)) (run d (drop (count (one s) * recordSize) s))
   unfolding run
   run-at = rw (table-some s some, level, le-leb d d (omega arith), rest-is, forest-tail (d + 1) others)
 
@@ -91,19 +91,19 @@ pub after-leaf : (r : Record) → isGroup r ≡ false → allowedAfter r ≡ r .
 unfolding allowedAfter
 after-leaf r e = rw e
 
-pub turn : (d n : ℕ) (s : List ℕ) → recordSize ≤ length s → Valid d n (tableOf s) → d ≤ recordAt s .depth
+pub turn : (d n : ℕ) (s : List ℕ) → recordSize ≤ length s → Valid d n (tableOf s) → d ≤ entryAt s .depth
     → Turn d n s (drop (count (one s) * recordSize) s)
 turn d n s some v low =
-    let w : Valid d n (recordAt s ∷ tableOf (drop recordSize s)) = rw (table-some s some) at v in
-    let g = keeps-good d n (recordAt s) (w .0) in
-    let level : recordAt s .depth ≡ d = omega arith in
+    let w : Valid d n (entryAt s ∷ tableOf (drop recordSize s)) = rw (table-some s some) at v in
+    let g = keeps-good d n (entryAt s) (w .0) in
+    let level : entryAt s .depth ≡ d = omega arith in
     record {
       depth-is = level;
       good-here = g;
       one-is = one-at d s some level;
       run-is = run-at d s some level;
       fits = one-fits d s some level;
-      valid-inside = λ e. rw (after-group (recordAt s) e, level) at (w .1);
-      none-inside = λ e. none-deeper d n (drop recordSize s) (rw (after-leaf (recordAt s) e, level) at (w .1));
-      valid-after = rw (rest-is d s some level) (valid-tail (allowedAfter (recordAt s)) d n (tableOf (drop recordSize s)) (w .1));
+      valid-inside = λ e. rw (after-group (entryAt s) e, level) at (w .1);
+      none-inside = λ e. none-deeper d n (drop recordSize s) (rw (after-leaf (entryAt s) e, level) at (w .1));
+      valid-after = rw (rest-is d s some level) (valid-tail (allowedAfter (entryAt s)) d n (tableOf (drop recordSize s)) (w .1));
     }

@@ -1,5 +1,4 @@
 pub mod Forests
-pub mod Parts
 pub mod Rules
 pub mod Tables
 pub mod Trip

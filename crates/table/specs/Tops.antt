@@ -8,8 +8,7 @@ use Rattle.octets.specs.Run.{Tree, done, broken, plain, group}
 use Rattle.rfc6733.specs.Avp as avp
 use Rattle.rfc6733.specs.Record.{Record}
 use Rattle.rfc6733.specs.Forest.{Forest, none, node}
-use Rattle.rfc6733.specs.Writer.{forestBytes}
-use Rattle.table.specs.Parts.{bodyOf}
+use Rattle.rfc6733.specs.Writer.{forestBytes, bodyOf}
 
 pub record Top : Type 0 where
   pub code : ℕ

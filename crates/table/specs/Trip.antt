@@ -15,7 +15,7 @@ use Rattle.rfc6733.specs.Record.{valueOf, groupValue, recordOf}
 use Rattle.rfc6733.specs.Forest as table
 use Rattle.rfc6733.specs.Forest.{Forest, none}
 use Rattle.rfc6733.specs.Writer.{Fields}
-use Rattle.table.specs.Tables.{bare}
+use Rattle.rfc6733.specs.Writer.{bare}
 
 -- the writer sets version and length itself
 unfoldable pub fieldsOf : Header → Fields

@@ -2,10 +2,11 @@
 // This crate knows how an answer is laid out as numbers, and nothing of how it comes about.
 use attribute::Reading;
 use avps::Counts;
+use avps::Filled;
 use diameter::Decoded;
-use diameter::DecodedAvp;
 use header::Header;
 use header::Parsed;
+use refusal::Refusal;
 use writer::Fields;
 use writer::Written;
 ghost use mathlib.Core.Path.{_≡_};
@@ -17,8 +18,10 @@ ghost use Rattle.rfc6733.specs.Writer.{written, tableBytes, output};
 ghost use Rattle.attribute.specs.Attributes.{dictionary};
 ghost use Rattle.header.specs.Parsed as header;
 ghost use Rattle.header.specs.Parsed.{headerAs};
+ghost use Rattle.refusal.specs.Refusals.{numberOf, amountOf};
+ghost use Rattle.avps.specs.Answers as avps;
 ghost use Rattle.avps.specs.Answers.{countsAs};
-ghost use Rattle.diameter.specs.Answers.{answerOf, avpAnswerOf};
+ghost use Rattle.diameter.specs.Answers.{answerOf};
 ghost use Rattle.writer.specs.Answers as writer;
 ghost use Rattle.tandrekily.specs.Results.{readingOf, fieldsGiven, result, refusal, messageResult, avpResult, writtenResult, messageAsked, avpAsked};
 
@@ -68,10 +71,10 @@ fn lay(number: u64, amount: usize, counts: Counts, header: Header) -> [u64; RESU
     ]
 }
 
-fn refused(number: u64, amount: usize) -> [u64; RESULT]
-    ensures { λ r. ⌜ r ≡ refusal number amount ⌝ }
+fn refused(why: Refusal) -> [u64; RESULT]
+    ensures { λ r. ⌜ r ≡ refusal (numberOf why) (amountOf why) ⌝ }
 {
-    lay(number, amount, NO_COUNTS, NO_HEADER)
+    lay(why.number() as u64, why.amount(), NO_COUNTS, NO_HEADER)
 }
 
 fn of_message(d: Decoded) -> [u64; RESULT]
@@ -88,13 +91,7 @@ fn of_message(d: Decoded) -> [u64; RESULT]
             };
             lay(0, 0, counts, header)
         }
-        Decoded::Incomplete(n) => refused(1, n),
-        Decoded::NotVersion => refused(2, 0),
-        Decoded::BadLength => refused(3, 0),
-        Decoded::NotTiled => refused(4, 0),
-        Decoded::TooDeep => refused(5, 0),
-        Decoded::NoRecords(n) => refused(6, n),
-        Decoded::BadDepth => refused(7, 0),
+        Decoded::Refused(why) => refused(why),
     }
 }
 
@@ -111,22 +108,16 @@ fn of_header(p: Parsed) -> [u64; RESULT]
             };
             lay(0, 0, counts, header)
         }
-        Parsed::Incomplete(n) => refused(1, n),
-        Parsed::NotVersion => refused(2, 0),
-        Parsed::BadLength => refused(3, 0),
+        Parsed::Refused(why) => refused(why),
     }
 }
 
-fn of_avp(d: DecodedAvp) -> [u64; RESULT]
-    ensures { λ r. ⌜ r ≡ avpResult (avpAnswerOf d) ⌝ }
+fn of_avp(d: Filled) -> [u64; RESULT]
+    ensures { λ r. ⌜ r ≡ avpResult (avps.answerOf d) ⌝ }
 {
     match d {
-        DecodedAvp::Accepted(counts) => lay(0, 0, counts, NO_HEADER),
-        DecodedAvp::Incomplete(n) => refused(1, n),
-        DecodedAvp::BadLength => refused(3, 0),
-        DecodedAvp::TooDeep => refused(5, 0),
-        DecodedAvp::NoRecords(n) => refused(6, n),
-        DecodedAvp::BadDepth => refused(7, 0),
+        Filled::Accepted(counts) => lay(0, 0, counts, NO_HEADER),
+        Filled::Refused(why) => refused(why),
     }
 }
 
@@ -143,10 +134,7 @@ fn of_written(w: Written) -> [u64; RESULT]
             };
             lay(0, 0, counts, NO_HEADER)
         }
-        Written::BadHeader => refused(8, 0),
-        Written::BadTable(index) => refused(9, index),
-        Written::TooLong => refused(10, 0),
-        Written::NoRoom(total) => refused(11, total),
+        Written::Refused(why) => refused(why),
     }
 }
 

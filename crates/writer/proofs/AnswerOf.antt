@@ -3,13 +3,12 @@
 -- Assumes nothing.
 use Prim.Native.Nat.{ℕ}
 use mathlib.Core.Path.{_≡_, refl, sym, ap, _∙_}
-use mathlib.Core.Bool.{cond}
-use lib.Dec.{eqb}
-use Rattle.rfc6733.specs.Answer.{Answer, accepted, refused, badHeader, badTable, tooLong}
+use Rattle.rfc6733.specs.Answer.{Answer, accepted, refused}
 use Rattle.rfc6733.specs.Writer as definition
+use Rattle.refusal.proofs.Back.{refusal-back, is-back}
 use Rattle.writer.specs.declared.Fields.{Fields}
 use Rattle.writer.specs.declared.Written.{Written}
-use Rattle.writer.specs.declared.Written.the-variants.{Accepted, BadHeader, BadTable, TooLong, NoRoom}
+use Rattle.writer.specs.declared.Written.the-variants.{Accepted, Refused}
 use Rattle.writer.specs.Answers.{fieldsAs, answerOf}
 
 abbrev fields-back : definition.Fields → Fields
@@ -17,17 +16,12 @@ fields-back f = record { flags = f .flags; code = f .code; «app_id» = f .appId
 
 abbrev outcome-back : Answer ℕ → Written
 outcome-back (accepted total) = Accepted total
-outcome-back (refused number amount) =
-    cond (eqb number badHeader) BadHeader
-    (cond (eqb number badTable) (BadTable amount) (cond (eqb number tooLong) TooLong (NoRoom amount)))
+outcome-back (refused number amount) = Refused (refusal-back number amount)
 
 outcome-is-back : (r : Written) → outcome-back (answerOf r) ≡ r
 unfolding answerOf
 outcome-is-back (Accepted total) = refl
-outcome-is-back BadHeader = refl
-outcome-is-back (BadTable index) = refl
-outcome-is-back TooLong = refl
-outcome-is-back (NoRoom total) = refl
+outcome-is-back (Refused r) = ap Refused (is-back r)
 
 pub fields-as-injective : (f f′ : Fields) → fieldsAs f ≡ fieldsAs f′ → f ≡ f′
 unfolding fieldsAs

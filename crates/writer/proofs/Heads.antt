@@ -10,8 +10,7 @@ use Rattle.octets.specs.Octets.{Field, field, octets, pack, over}
 use Rattle.rfc6733.specs.Flags.{bit}
 use Rattle.rfc6733.specs.Avp.{vendorBit, headSize}
 use Rattle.rfc6733.specs.Record.{Record}
-use Rattle.rfc6733.specs.Writer.{Fields, headOf}
-use Rattle.table.specs.Parts.{headerFields, headFields}
+use Rattle.rfc6733.specs.Writer.{Fields, headOf, headerFields, headFields}
 
 -- ---- a message's header
 

@@ -11,8 +11,7 @@ use Rattle.octets.specs.Octets.{pack, over}
 use Rattle.octets.proofs.Lists.{rest, lent, over-more}
 use Rattle.rfc6733.specs.Avp.{padding}
 use Rattle.rfc6733.specs.Record.{Record}
-use Rattle.rfc6733.specs.Writer.{headOf, statedData, avpBytes}
-use Rattle.table.specs.Parts.{headFields, padBytes}
+use Rattle.rfc6733.specs.Writer.{headOf, statedData, avpBytes, headFields, padBytes}
 use Rattle.table.specs.Rules.{Leaf}
 use Rattle.table.proofs.Lengths.{head-low, head-length, avp-length}
 use Rattle.record.specs.declared.Record as code

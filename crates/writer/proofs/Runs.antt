@@ -12,9 +12,8 @@ use Rattle.octets.specs.Octets.{pack, over}
 use Rattle.octets.proofs.Lists.{over-length, over-none, over-more, over-before, lent}
 use Rattle.rfc6733.specs.Record.{Record, recordSize}
 use Rattle.rfc6733.specs.Forest.{Forest, none, node}
-use Rattle.rfc6733.specs.Writer.{recordAt, tableOf, isGroup, headOf, avpBytes, forestBytes, most24}
+use Rattle.rfc6733.specs.Writer.{entryAt, tableOf, isGroup, headOf, avpBytes, forestBytes, most24, headFields, padBytes, bodyOf}
 use Rattle.table.specs.Forests.{count}
-use Rattle.table.specs.Parts.{headFields, padBytes, bodyOf}
 use Rattle.table.specs.Rules.{Unpadded, Leaf, Valid}
 use Rattle.table.specs.Tables.{run, one}
 use Rattle.table.proofs.Lengths.{head-length}
@@ -59,7 +58,7 @@ node-split pool r i t = ap (λ (x : List ℕ). x ++ forestBytes pool t) (sym (ap
 run-split : (pool : List ℕ) (depth : ℕ) (s z : List ℕ) → Turn depth (length pool) s z
     → forestBytes pool (run depth s) ≡ forestBytes pool (one s) ++ forestBytes pool (run depth z)
 run-split pool depth s z t =
-    rw (t .run-is, t .one-is) (node-split pool (recordAt s) (run (depth + 1) (drop recordSize s)) (run depth z))
+    rw (t .run-is, t .one-is) (node-split pool (entryAt s) (run (depth + 1) (drop recordSize s)) (run depth z))
 
 -- so many records more are there, and not none; and their bytes are within the size of all
 pub record Further (table : List ℕ) (n b : ℕ) (t : Taken) (all : ℕ) : Type 0 where
@@ -68,7 +67,7 @@ pub record Further (table : List ℕ) (n b : ℕ) (t : Taken) (all : ℕ) : Type
   pub within : b + t .size ≤ all
 
 module _ (pool : List ℕ) (depth : ℕ) (f : Forest) (table : List ℕ) (n b : ℕ) (before now : List ℕ) (more : n < length table / recordSize)
-    (low : depth ≤ recordAt (drop (n * recordSize) table) .depth) (g : Going pool depth f (drop (n * recordSize) table) n b before now) where
+    (low : depth ≤ entryAt (drop (n * recordSize) table) .depth) (g : Going pool depth f (drop (n * recordSize) table) n b before now) where
   abbrev here : List ℕ
   here = drop (n * recordSize) table
 
@@ -86,7 +85,7 @@ module _ (pool : List ℕ) (depth : ℕ) (f : Forest) (table : List ℕ) (n b : 
 
   -- it can be put
   pub one-ready : length (forestBytes pool f) ≤ most24 → length (forestBytes pool f) ≤ length before
-      → Ready (one here) (recordAt here .depth) here pool (length (drop b now))
+      → Ready (one here) (entryAt here .depth) here pool (length (drop b now))
   one-ready short fits =
       let y = left fits g in
       let x = sum in
@@ -165,7 +164,7 @@ pub record Single (pool s : List ℕ) (r : Record) : Type 0 where
   pub count-is : count (one s) ≡ 1
   pub leaf : Leaf (length pool) r
 
-module _ (pool : List ℕ) (depth : ℕ) (s : List ℕ) (r : Record) (is : r ≡ recordAt s) (level : r .depth ≡ depth) (some : recordSize ≤ length s)
+module _ (pool : List ℕ) (depth : ℕ) (s : List ℕ) (r : Record) (is : r ≡ entryAt s) (level : r .depth ≡ depth) (some : recordSize ≤ length s)
     (v : Valid depth (length pool) (tableOf s)) where
   abbrev members : List ℕ
   members = forestBytes pool (run (depth + 1) (drop recordSize s))

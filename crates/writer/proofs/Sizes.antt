@@ -11,7 +11,7 @@ use lib.Dec.{ltb}
 use borrow.Author.Tests.{ltb-true, ltb-false, lt-ltb, le-ltb}
 use Rattle.rfc6733.specs.Record.{Record, recordSize}
 use Rattle.rfc6733.specs.Forest.{Forest, none}
-use Rattle.rfc6733.specs.Writer.{recordAt, tableOf, isGroup, headOf, statedData, most24}
+use Rattle.rfc6733.specs.Writer.{entryAt, tableOf, isGroup, headOf, statedData, most24}
 use Rattle.table.specs.Forests.{count, size}
 use Rattle.table.specs.Rules.{Valid}
 use Rattle.table.specs.Tables.{run, one}
@@ -70,7 +70,7 @@ pub record Further (table : List ℕ) (n i : ℕ) : Type 0 where
   pub some : 1 ≤ i
 
 module _ (depth : ℕ) (f : Forest) (table : List ℕ) (left n z : ℕ) (more : n < length table / recordSize)
-    (low : depth ≤ recordAt (drop (n * recordSize) table) .depth) (p : Passed depth f (drop (n * recordSize) table) left n z) where
+    (low : depth ≤ entryAt (drop (n * recordSize) table) .depth) (p : Passed depth f (drop (n * recordSize) table) left n z) where
   abbrev here : List ℕ
   here = drop (n * recordSize) table
 
@@ -84,7 +84,7 @@ module _ (depth : ℕ) (f : Forest) (table : List ℕ) (left n z : ℕ) (more : 
   sum : size (run depth here) ≡ size (one here) + size (run depth after)
   sum = let t = next .here-is in rw (t .run-is, t .one-is) (omega arith)
 
-  pub one-orderly : left ≤ most24 → Orderly (recordAt here .depth) here (left - z)
+  pub one-orderly : left ≤ most24 → Orderly (entryAt here .depth) here (left - z)
   one-orderly h = record { available = p .available; valid = rw (next .here-is .depth-is) (p .valid); short = omega arith }
 
   -- too much already
@@ -128,7 +128,7 @@ pub record Alone (s : List ℕ) (r : Record) : Type 0 where
   pub size-is : size (one s) ≡ r .length + r .padding
   pub count-is : count (one s) ≡ 1
 
-module _ (depth : ℕ) (s : List ℕ) (r : Record) (left : ℕ) (is : r ≡ recordAt s) (level : r .depth ≡ depth) (some : recordSize ≤ length s)
+module _ (depth : ℕ) (s : List ℕ) (r : Record) (left : ℕ) (is : r ≡ entryAt s) (level : r .depth ≡ depth) (some : recordSize ≤ length s)
     (o : Orderly depth s left) where
   abbrev members : Forest
   members = run (depth + 1) (drop recordSize s)

@@ -9,7 +9,7 @@ use lib.ListN.{length, drop, length-drop}
 use lib.Seq.{drop-drop}
 use Rattle.rfc6733.specs.Record.{Record, recordSize}
 use Rattle.rfc6733.specs.Forest.{none, node}
-use Rattle.rfc6733.specs.Writer.{recordAt, tableOf, isGroup}
+use Rattle.rfc6733.specs.Writer.{entryAt, tableOf, isGroup}
 use Rattle.table.specs.Forests.{count}
 use Rattle.table.specs.Rules.{Good, Valid}
 use Rattle.table.specs.Tables.{run, one}
@@ -25,7 +25,7 @@ pub record Front (depth available : ℕ) (s : List ℕ) (r : Record) : Type 0 wh
   pub valid-inside : isGroup r ≡ true → Valid (depth + 1) available (tableOf (drop recordSize s))
   pub none-inside : isGroup r ≡ false → run (depth + 1) (drop recordSize s) ≡ none
 
-pub front : (depth available : ℕ) (s : List ℕ) (r : Record) → r ≡ recordAt s → r .depth ≡ depth → recordSize ≤ length s
+pub front : (depth available : ℕ) (s : List ℕ) (r : Record) → r ≡ entryAt s → r .depth ≡ depth → recordSize ≤ length s
     → Valid depth available (tableOf s) → Front depth available s r
 front depth available s r is level some v =
     let t = turn depth available s some v (rw (← is) (omega arith)) in
@@ -49,7 +49,7 @@ pub record Step (depth available : ℕ) (table : List ℕ) (n : ℕ) (here after
 
 pub step : (depth available : ℕ) (table : List ℕ) (n : ℕ) → n < length table / recordSize
     → let here = drop (n * recordSize) table in
-    depth ≤ recordAt here .depth → Valid depth available (tableOf here)
+    depth ≤ entryAt here .depth → Valid depth available (tableOf here)
     → Step depth available table n here (drop (count (one here) * recordSize) here)
 step depth available table n more low v =
     let here = drop (n * recordSize) table in

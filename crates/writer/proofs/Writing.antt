@@ -14,9 +14,8 @@ use Rattle.octets.proofs.Lists.{over-before, lent}
 use Rattle.rfc6733.specs.Answer.{accepted, refused, badHeader, badTable, tooLong, noRoom}
 use Rattle.rfc6733.specs.Record.{recordSize}
 use Rattle.rfc6733.specs.Forest.{Forest, none, node, front, forest}
-use Rattle.rfc6733.specs.Writer.{Fields, tableOf, keepers, forestBytes, messageBytes, tableBytes, most24, written}
+use Rattle.rfc6733.specs.Writer.{Fields, tableOf, keepers, forestBytes, messageBytes, tableBytes, most24, written, headerFields}
 use Rattle.table.specs.Forests.{size}
-use Rattle.table.specs.Parts.{headerFields}
 use Rattle.table.specs.Rules.{Valid, Kept}
 use Rattle.table.specs.Tables.{run}
 use Rattle.table.proofs.Keepers.{keepers-valid, keepers-most}

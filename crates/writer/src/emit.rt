@@ -9,8 +9,7 @@ ghost use lib.ListN.{length};
 ghost use lib.Seq.{sets};
 ghost use Rattle.octets.specs.Octets.{octets, pack, over};
 ghost use Rattle.rfc6733.specs.Record.{recordSize};
-ghost use Rattle.rfc6733.specs.Writer.{recordAt, headOf, avpBytes};
-ghost use Rattle.table.specs.Parts.{headFields, padBytes};
+ghost use Rattle.rfc6733.specs.Writer.{entryAt, headOf, avpBytes, headFields, padBytes};
 ghost use Rattle.table.specs.Tables.{run, one};
 ghost use Rattle.record.specs.Stored.{recordAs};
 ghost use Rattle.writer.specs.Emitting.{dataIn, LeafRoom, Put, Ready, Done};
@@ -109,7 +108,7 @@ pub(super) fn emit_run(table: &[u8], pool: &[u8], depth: u8, out: &mut [u8]) -> 
 // Puts the record `r` that `table` starts with. The members of a group go into the part of the output after its header,
 // which is put when their size is known.
 fn emit_avp(r: Record, table: &[u8], pool: &[u8], out: &mut [u8]) -> Taken
-    requires { ⌜ (recordAs r ≡ recordAt (now table)) × (recordSize ≤ length (now table)) ⌝ }
+    requires { ⌜ (recordAs r ≡ entryAt (now table)) × (recordSize ≤ length (now table)) ⌝ }
     requires { ⌜ Ready (one (now table)) (r .depth) (now table) (now pool) (length (now out)) ⌝ }
     ensures { λ t. ⌜ Done (one (now (table .entry))) (now (pool .entry)) t (now (out .entry)) (now (out .exit)) ⌝ }
 {

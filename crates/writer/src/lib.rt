@@ -4,13 +4,13 @@ mod emit;
 mod size;
 
 use record::Record;
+use refusal::Refusal;
 use size::Measured;
 ghost use mathlib.Core.Path.{_≡_};
 ghost use Prim.Native.Nat.{_≤_};
 ghost use lib.ListN.{length};
 ghost use Rattle.octets.specs.Octets.{pack, over};
-ghost use Rattle.rfc6733.specs.Writer.{written, tableBytes, output};
-ghost use Rattle.table.specs.Parts.{headerFields};
+ghost use Rattle.rfc6733.specs.Writer.{written, tableBytes, output, headerFields};
 ghost use Rattle.writer.specs.Answers.{fieldsAs, answerOf};
 
 /// The header fields of a message to be written; the version is 1 and the length is computed.
@@ -25,10 +25,7 @@ pub struct Fields {
 /// What writing a message answers: its length, or the refusal.
 pub enum Written {
     Accepted(usize),
-    BadHeader,
-    BadTable(usize),
-    TooLong,
-    NoRoom(usize),
+    Refused(Refusal),
 }
 
 impl Fields {
@@ -63,27 +60,27 @@ pub fn write(fields: Fields, table: &[u8], pool: &[u8], out: &mut [u8]) -> Writt
     ensures out { λ r. ⌜ now (out .exit) ≡ output (answerOf r) (tableBytes (fieldsAs fields) (now (table .entry)) (now (pool .entry))) (now (out .entry)) ⌝ }
 {
     if Fields::MOST_CODE < fields.code {
-        return Written::BadHeader;
+        return Written::Refused(Refusal::BadHeader);
     }
     let count = table.len() / Record::SIZE;
     let remainder = table.len() % Record::SIZE;
     let kept = rules::keepers(table, pool.len());
     if kept < count {
-        return Written::BadTable(kept);
+        return Written::Refused(Refusal::BadTable(kept));
     }
     if remainder != 0 {
-        return Written::BadTable(count);
+        return Written::Refused(Refusal::BadTable(count));
     }
     let Measured::Size { records: _, size } = size::size_run(
         table,
         1,
         Fields::MOST_LENGTH - Fields::SIZE,
     ) else {
-        return Written::TooLong;
+        return Written::Refused(Refusal::TooLong);
     };
     let total = Fields::SIZE + size;
     if out.len() < total {
-        return Written::NoRoom(total);
+        return Written::Refused(Refusal::NoRoom(total));
     }
     emit::emit_run(table, pool, 1, &mut out[Fields::SIZE..]);
     fields.put(total as u32, out);

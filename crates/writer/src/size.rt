@@ -6,7 +6,7 @@ ghost use mathlib.Core.Path.{_≡_};
 ghost use Prim.Native.Nat.{_≤_};
 ghost use lib.ListN.{length};
 ghost use Rattle.rfc6733.specs.Record.{recordSize};
-ghost use Rattle.rfc6733.specs.Writer.{recordAt};
+ghost use Rattle.rfc6733.specs.Writer.{entryAt};
 ghost use Rattle.table.specs.Tables.{run, one};
 ghost use Rattle.record.specs.Stored.{recordAs};
 ghost use Rattle.writer.specs.Sizing.{Orderly, sizedOf};
@@ -44,7 +44,7 @@ pub(super) fn size_run(table: &[u8], depth: u8, left: usize) -> Measured
 
 // The same for the record `r` that `table` starts with.
 fn size_avp(r: Record, table: &[u8], left: usize) -> Measured
-    requires { ⌜ (recordAs r ≡ recordAt (now table)) × (recordSize ≤ length (now table)) ⌝ }
+    requires { ⌜ (recordAs r ≡ entryAt (now table)) × (recordSize ≤ length (now table)) ⌝ }
     requires { ⌜ Orderly (r .depth) (now table) left ⌝ }
     ensures { λ m. ⌜ m ≡ sizedOf left (one (now (table .entry))) ⌝ }
 {

@@ -7,7 +7,7 @@ use native.Mathlib.Omega.{arith}
 use lib.ListN.{length}
 use denote.Ref.{now}
 use borrow.Author.Needs.{needs}
-use Rattle.rfc6733.specs.Answer.{refused, incomplete, notVersion, badLength}
+use Rattle.rfc6733.specs.Answer.{refused}
 use Rattle.rfc6733.specs.Decoder.{capacity, decoded, stored}
 use Rattle.rfc6733.proofs.Decoded.{message-limit-under, message-limit-over, header-refused}
 use Rattle.attribute.specs.Attributes.{dictionary}
@@ -39,15 +39,7 @@ parse-body-requires c κs =
 
 returns-4 : tie.Need-returns-4
 unfolding answerOf stored header.answerOf
-returns-4 c = (refuses (c .before .before .before) incomplete _ (ap header.answerOf (c .before .n .given .1)), refl)
-
-returns-5 : tie.Need-returns-5
-unfolding answerOf stored header.answerOf
-returns-5 c = (refuses (c .before .before) notVersion 0 (ap header.answerOf (c .enum-told .given .1)), refl)
-
-returns-6 : tie.Need-returns-6
-unfolding answerOf stored header.answerOf
-returns-6 c = (refuses (c .before .before) badLength 0 (ap header.answerOf (c .enum-told2 .given .1)), refl)
+returns-4 c = (refuses (c .before .before .before) _ _ (ap header.answerOf (c .before .why .given .1)), refl)
 
 pub parse-spec : {M : Type 1} → statement M
 parse-spec =
@@ -61,8 +53,4 @@ parse-spec =
     (λ c. search needs)
     (λ c. search needs)
     (λ c. search needs)
-    (λ c. search needs)
-    (λ c. search needs)
-    returns-4
-    returns-5
-    returns-6)
+    returns-4)

@@ -7,13 +7,13 @@ use native.Mathlib.Omega.{arith}
 use lib.ListN.{length}
 use denote.Ref.{now}
 use borrow.Author.Needs.{needs}
-use Rattle.rfc6733.specs.Answer.{refused, incomplete, badLength}
+use Rattle.rfc6733.specs.Answer.{refused}
 use Rattle.rfc6733.specs.Decoder.{capacity, avpAlone, stored}
 use Rattle.rfc6733.proofs.Decoded.{alone-limit-under, alone-limit-over, front-refused}
 use Rattle.attribute.specs.Attributes.{dictionary}
+use Rattle.avps.specs.Answers as avps
 use Rattle.front.specs.Front as front
 use Rattle.front.proofs.Fronts.{was-accepted, here}
-use Rattle.diameter.specs.Answers.{avpAnswerOf}
 use Rattle.diameter.proofs.parse_avp.Statement.{statement}
 use Rattle.diameter.proofs.parse_avp.Tie as tie
 
@@ -27,11 +27,11 @@ unfolding front.frontOf
 refuses c n a e = front-refused _ _ _ _ (omega arith) (omega arith) (front.avpOf (now (start c .args .input))) n a (sym (c .head .ensures) ∙ e)
 
 returns : tie.Need-returns
-unfolding avpAnswerOf stored
+unfolding avps.answerOf stored
 returns c = (alone-limit-under _ _ _ _ (omega arith), refl)
 
 returns-2 : tie.Need-returns-2
-unfolding avpAnswerOf stored
+unfolding avps.answerOf stored
 returns-2 c = (alone-limit-over _ _ _ _ (omega arith), refl)
 
 parse-one-requires : tie.Need-parse-one-requires
@@ -41,12 +41,8 @@ parse-one-requires c κs =
     (record { low = omega arith; high = omega arith }, record { whole = w .0; size-is = here _ _ (w .1) .size-is })
 
 returns-4 : tie.Need-returns-4
-unfolding avpAnswerOf stored front.answerOf
-returns-4 c = (refuses (c .before .before .before) incomplete _ (ap front.answerOf (c .before .n .given .1)), refl)
-
-returns-5 : tie.Need-returns-5
-unfolding avpAnswerOf stored front.answerOf
-returns-5 c = (refuses (c .before .before) badLength 0 (ap front.answerOf (c .enum-told .given .1)), refl)
+unfolding avps.answerOf stored front.answerOf
+returns-4 c = (refuses (c .before .before .before) _ _ (ap front.answerOf (c .before .why .given .1)), refl)
 
 pub parse-avp-spec : {M : Type 1} → statement M
 parse-avp-spec =
@@ -60,6 +56,4 @@ parse-avp-spec =
     (λ c. search needs)
     (λ c. search needs)
     (λ c. search needs)
-    (λ c. search needs)
-    returns-4
-    returns-5)
+    returns-4)

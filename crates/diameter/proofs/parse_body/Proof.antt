@@ -5,7 +5,6 @@ use mathlib.Core.Path.{refl}
 use native.Mathlib.Omega.{arith}
 use denote.Ref.{now}
 use borrow.Author.Needs.{needs}
-use Rattle.rfc6733.specs.Answer.{notTiled, tooDeep, noRecords}
 use Rattle.rfc6733.specs.Decoder.{stored}
 use Rattle.avps.specs.Answers as avps
 use Rattle.avps.proofs.Told.{told}
@@ -46,27 +45,11 @@ returns c =
 returns-2 : tie.Need-returns-2
 unfolding answerOf stored avps.answerOf
 returns-2 c =
-    let answered = read (c .before .before) in
-    let b = start answered in
-    let p = answered .parse-avps .ensures in
-    refuses _ _ _ _ _ _ (b .pre .0) (b .pre .1) notTiled 0 refl (told (c .enum-told .given .1) (p .0) (p .1))
-
-returns-3 : tie.Need-returns-3
-unfolding answerOf stored avps.answerOf
-returns-3 c =
-    let answered = read (c .before .before) in
-    let b = start answered in
-    let p = answered .parse-avps .ensures in
-    refuses _ _ _ _ _ _ (b .pre .0) (b .pre .1) tooDeep 0 refl (told (c .enum-told2 .given .1) (p .0) (p .1))
-
-returns-4 : tie.Need-returns-4
-unfolding answerOf stored avps.answerOf
-returns-4 c =
     let found = c .before in
     let answered = read (found .before .before) in
     let b = start answered in
     let p = answered .parse-avps .ensures in
-    refuses _ _ _ _ _ _ (b .pre .0) (b .pre .1) noRecords _ refl (told (found .n .given .1) (p .0) (p .1))
+    refuses _ _ _ _ _ _ (b .pre .0) (b .pre .1) _ _ refl (told (found .why .given .1) (p .0) (p .1))
 
 pub parse-body-spec : {M : Type 1} → statement M
 parse-body-spec =
@@ -82,12 +65,6 @@ parse-body-spec =
     (λ c κs. tt)
     (λ c. search needs)
     (λ c. search needs)
-    (λ c. search needs)
-    (λ c. search needs)
     returns
     (λ c. search needs)
-    returns-2
-    (λ c. search needs)
-    returns-3
-    (λ c. search needs)
-    returns-4)
+    returns-2)

@@ -3,6 +3,7 @@
 -- Assumes nothing.
 use mathlib.Core.Path.{sym, _∙_}
 use borrow.Author.Needs.{needs}
+use Rattle.front.specs.Front.{answerOf}
 use Rattle.front.proofs.Fronts.{was-whole, was-broken}
 use Rattle.front.proofs.Refusals.{accepted-whole}
 use Rattle.front.proofs.head.Statement.{statement}
@@ -16,7 +17,11 @@ returns c =
     let was = was-whole _ _ (sym (c .before .a .given .1) ∙ c .before .before .before .complete .ensures) in
     accepted-whole _ (was .0) _ (was .1)
 
+returns-2 : tie.Need-returns-2
+unfolding answerOf
+returns-2 c = c .refusal .ensures
+
 pub head-spec : {M : Type 1} → statement M
 head-spec =
     tie.close
-    (tie.spec (λ c κs. search needs) (λ c. search needs) (λ c. search needs) refusal-requires returns (λ c. search needs))
+    (tie.spec (λ c κs. search needs) (λ c. search needs) (λ c. search needs) refusal-requires returns returns-2)

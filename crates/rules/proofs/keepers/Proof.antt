@@ -11,7 +11,7 @@ use borrow.Author.Needs.{needs}
 use borrow.Author.Tests.{not-true, not-false}
 use Rattle.octets.proofs.Lists.{rest}
 use Rattle.rfc6733.specs.Record.{recordSize}
-use Rattle.rfc6733.specs.Writer.{recordAt, tableOf, keeps, keepers}
+use Rattle.rfc6733.specs.Writer.{entryAt, tableOf, keeps, keepers}
 use Rattle.table.proofs.Rules.{keeps-good}
 use Rattle.record.specs.Stored.{recordAs}
 use Rattle.rules.proofs.Checks.{stepped, not-stepped, stops, one-more, none-left}
@@ -46,14 +46,14 @@ available l = l .before .before .args .available
 abbrev left-of : Loop → List ℕ
 left-of l = drop (l .loop .kept * recordSize) (whole l)
 
-record-read : (c : Read) → recordAs (c .get .result) ≡ recordAt (left-of (loop c))
+record-read : (c : Read) → recordAs (c .get .result) ≡ entryAt (left-of (loop c))
 record-read c = let l = loop c in rw (rest (whole l) (l .loop .kept * recordSize) (l .loop .inv .0)) at (c .get .ensures)
 
 -- a record that keeps its own rules keeps all of them, where its depth is allowed
 kept-is : (c : tie.After-keeps Inv-loop μ-loop)
     → let found = c .before .before .before in
     let l = loop found in
-    c .keeps .result ≡ keeps (l .loop .allowed) (available l) (recordAt (left-of l))
+    c .keeps .result ≡ keeps (l .loop .allowed) (available l) (entryAt (left-of l))
 unfolding recordAs
 kept-is c =
     let found = c .before .before .before in

@@ -15,27 +15,5 @@ returns-2 : tie.Need-returns-2
 unfolding messageResult answerOf
 returns-2 c = rw (c .before .before .p2 .given .1) (c .refused .ensures)
 
-returns-3 : tie.Need-returns-3
-unfolding messageResult answerOf
-returns-3 c = rw (c .before .enum-told .given .1) (c .refused2 .ensures)
-
-returns-4 : tie.Need-returns-4
-unfolding messageResult answerOf
-returns-4 c = rw (c .before .enum-told2 .given .1) (c .refused3 .ensures)
-
 pub of-header-spec : {M : Type 1} → statement M
-of-header-spec =
-    tie.close
-    (tie.spec
-    (λ c. search needs)
-    (λ c κs. search needs)
-    (λ c. search needs)
-    (λ c κs. search needs)
-    (λ c. search needs)
-    (λ c κs. search needs)
-    (λ c. search needs)
-    (λ c κs. search needs)
-    returns
-    returns-2
-    returns-3
-    returns-4)
+of-header-spec = tie.close (tie.spec (λ c. search needs) (λ c κs. search needs) (λ c. search needs) (λ c κs. search needs) returns returns-2)

@@ -14,36 +14,7 @@ returns c = rw (c .before .before .w .given .1) (c .lay .ensures)
 
 returns-2 : tie.Need-returns-2
 unfolding writtenResult answerOf
-returns-2 c = rw (c .before .enum-told .given .1) (c .refused .ensures)
-
-returns-3 : tie.Need-returns-3
-unfolding writtenResult answerOf
-returns-3 c = rw (c .before .before .w2 .given .1) (c .refused2 .ensures)
-
-returns-4 : tie.Need-returns-4
-unfolding writtenResult answerOf
-returns-4 c = rw (c .before .enum-told2 .given .1) (c .refused3 .ensures)
-
-returns-5 : tie.Need-returns-5
-unfolding writtenResult answerOf
-returns-5 c = rw (c .before .before .w3 .given .1) (c .refused4 .ensures)
+returns-2 c = rw (c .before .before .w2 .given .1) (c .refused .ensures)
 
 pub of-written-spec : {M : Type 1} → statement M
-of-written-spec =
-    tie.close
-    (tie.spec
-    (λ c. search needs)
-    (λ c κs. search needs)
-    (λ c. search needs)
-    (λ c κs. search needs)
-    (λ c. search needs)
-    (λ c κs. search needs)
-    (λ c. search needs)
-    (λ c κs. search needs)
-    (λ c. search needs)
-    (λ c κs. search needs)
-    returns
-    returns-2
-    returns-3
-    returns-4
-    returns-5)
+of-written-spec = tie.close (tie.spec (λ c. search needs) (λ c κs. search needs) (λ c. search needs) (λ c κs. search needs) returns returns-2)

@@ -8,7 +8,8 @@ use Rattle.tandrekily.proofs.refused.Tie as tie
 
 returns : tie.Need-returns
 unfolding headerAs countsAs
-returns c = c .lay .ensures
+returns c =
+    rw (c .before .amount .ensures, c .before .before .number .ensures) at (c .lay .ensures)
 
 pub refused-spec : {M : Type 1} → statement M
-refused-spec = tie.close (tie.spec (λ c κs. search needs) returns)
+refused-spec = tie.close (tie.spec (λ c κs. search needs) (λ c. search needs) (λ c κs. search needs) (λ c κs. search needs) returns)

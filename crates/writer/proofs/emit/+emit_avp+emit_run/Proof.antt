@@ -17,7 +17,7 @@ use Rattle.octets.proofs.Lists.{rest}
 use Rattle.rfc6733.specs.Record as rfc
 use Rattle.rfc6733.specs.Record.{recordSize}
 use Rattle.rfc6733.specs.Forest.{Forest}
-use Rattle.rfc6733.specs.Writer.{recordAt, forestBytes}
+use Rattle.rfc6733.specs.Writer.{entryAt, forestBytes}
 use Rattle.table.specs.Tables.{run, one}
 use Rattle.table.proofs.Lengths.{head-low}
 use Rattle.table.proofs.Turns.{run-end, run-above}
@@ -249,13 +249,13 @@ module _ (t : ℕ) where
   size-within : (l : Loop) → l .loop .size ≤ length (l .loop .out)
   size-within l = omega (arith, room-left l, start l .pre .1)
 
-  record-read : (c : Read) → let l = c .before .before .before in recordAs (c .get .result) ≡ recordAt (left-of l)
+  record-read : (c : Read) → let l = c .before .before .before in recordAs (c .get .result) ≡ entryAt (left-of l)
   record-read c = let l = c .before .before .before in rw (rest (whole l) (l .loop .records * recordSize) (l .loop .inv .0)) at (c .get .ensures)
 
-  depth-read : (c : Read) → let l = c .before .before .before in recordAt (left-of l) .depth ≡ c .get .result .depth
+  depth-read : (c : Read) → let l = c .before .before .before in entryAt (left-of l) .depth ≡ c .get .result .depth
   depth-read c = ap (λ (r : rfc.Record). r .depth) (sym (record-read c)) ∙ same (c .get .result) .depth-is
 
-  deep-enough : (c : Found) → let l = loop c in start l .args .depth ≤ recordAt (left-of l) .depth
+  deep-enough : (c : Found) → let l = loop c in start l .args .depth ≤ entryAt (left-of l) .depth
   deep-enough c = omega (arith, depth-read (c .before .before))
 
   one-done : (c : One)

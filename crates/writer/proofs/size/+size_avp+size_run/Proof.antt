@@ -15,7 +15,7 @@ use Rattle.octets.proofs.Lists.{rest}
 use Rattle.rfc6733.specs.Record as rfc
 use Rattle.rfc6733.specs.Record.{recordSize}
 use Rattle.rfc6733.specs.Forest.{Forest}
-use Rattle.rfc6733.specs.Writer.{recordAt}
+use Rattle.rfc6733.specs.Writer.{entryAt}
 use Rattle.table.specs.Tables.{run, one}
 use Rattle.table.proofs.Turns.{run-end, run-above}
 use Rattle.record.specs.Stored.{recordAs}
@@ -178,13 +178,13 @@ module _ (t : ℕ) where
   abbrev left-of : Loop → List ℕ
   left-of l = drop (l .loop .records * recordSize) (whole l)
 
-  record-read : (c : Read) → let l = c .before .before .before in recordAs (c .get .result) ≡ recordAt (left-of l)
+  record-read : (c : Read) → let l = c .before .before .before in recordAs (c .get .result) ≡ entryAt (left-of l)
   record-read c = let l = c .before .before .before in rw (rest (whole l) (l .loop .records * recordSize) (l .loop .inv .0)) at (c .get .ensures)
 
-  depth-read : (c : Read) → let l = c .before .before .before in recordAt (left-of l) .depth ≡ c .get .result .depth
+  depth-read : (c : Read) → let l = c .before .before .before in entryAt (left-of l) .depth ≡ c .get .result .depth
   depth-read c = ap (λ (r : rfc.Record). r .depth) (sym (record-read c)) ∙ same (c .get .result) .depth-is
 
-  deep-enough : (c : Found) → let l = loop c in l .before .before .args .depth ≤ recordAt (left-of l) .depth
+  deep-enough : (c : Found) → let l = loop c in l .before .before .args .depth ≤ entryAt (left-of l) .depth
   deep-enough c = omega (arith, depth-read (c .before .before))
 
   one-sized : (c : size-run-lts.After-size-avp (size-run-calls t) (size-run-at t) size-run.Post size-run-Inv-loop size-run-μ-loop)
