@@ -1,20 +1,28 @@
--- The dump's lines as numbers (document 01, "The dump").
+-- The dump (document 01, "The dump"): the numbers of each line, and the text that they make.
 -- Assumes nothing: these are definitions.
-use Prim.Native.Nat.{ℕ}
-use mathlib.Core.List.{List, [], _∷_}
+use Prim.Native.Nat.{ℕ, zero, suc, _+_, _/_, _%_}
+use mathlib.Core.Bool.{cond}
+use mathlib.Core.List.{List, [], _∷_, _++_}
+use lib.ListN.{take}
+use lib.Dec.{ltb}
 use Rattle.rfc6733.specs.Answer.{Answer, accepted, refused}
+use Rattle.rfc6733.specs.Dictionary.{sawp}
 use Rattle.rfc6733.specs.Record.{Record}
-use Rattle.rfc6733.specs.Decoder.{Counts, Message}
+use Rattle.rfc6733.specs.Decoder.{Counts, Message, decoded, messageRecords}
+
+-- ---- the lines as numbers
 
 pub data Dump : Type 0 where
   lines : List (List ℕ) → Dump
   refusal : ℕ → ℕ → Dump
 
 -- depth, code, vendor, kind, error flags, length, value
+abbrev pub recordLine : Record → List ℕ
+recordLine r = r .depth ∷ r .code ∷ r .vendor ∷ r .kind ∷ r .errors ∷ r .length ∷ r .value ∷ []
+
 abbrev pub recordLines : List Record → List (List ℕ)
 recordLines [] = []
-recordLines (r ∷ rs) =
-    (r .depth ∷ r .code ∷ r .vendor ∷ r .kind ∷ r .errors ∷ r .length ∷ r .value ∷ []) ∷ recordLines rs
+recordLines (r ∷ rs) = recordLine r ∷ recordLines rs
 
 -- length, message flags, records, tried
 abbrev pub firstLine : Counts → List ℕ
@@ -23,3 +31,39 @@ firstLine c = c .length ∷ c .flags ∷ c .records ∷ c .tried ∷ []
 unfoldable pub dump : Answer Message → List Record → Dump
 dump (accepted m) rs = lines (firstLine (m .counts) ∷ recordLines rs)
 dump (refused n a) rs = refusal n a
+
+-- ---- the text, in ASCII
+
+abbrev pub digit : ℕ → ℕ
+digit d = 48 + d
+
+-- a number in decimal with k digits at most, the highest first and none before it that is 0
+abbrev pub decimalIn : ℕ → ℕ → List ℕ
+decimalIn zero n = []
+decimalIn (suc k) n = let more = decimalIn k (n / 10) in cond (ltb n 10) [] more ++ (digit (n % 10) ∷ [])
+
+-- 64 bits have 20 digits at most
+unfoldable pub decimal : ℕ → List ℕ
+decimal n = decimalIn 20 n
+
+-- a line: decimal numbers, one space between, and a newline
+abbrev pub line : List ℕ → List ℕ
+line [] = 10 ∷ []
+line (n ∷ []) = decimal n ++ (10 ∷ [])
+line (n ∷ m ∷ ns) = decimal n ++ (32 ∷ line (m ∷ ns))
+
+abbrev pub linesText : List (List ℕ) → List ℕ
+linesText [] = []
+linesText (l ∷ ls) = line l ++ linesText ls
+
+-- the word `refused`
+abbrev pub refusedWord : List ℕ
+refusedWord = 114 ∷ 101 ∷ 102 ∷ 117 ∷ 115 ∷ 101 ∷ 100 ∷ []
+
+unfoldable pub dumpText : Dump → List ℕ
+dumpText (lines ls) = linesText ls
+dumpText (refusal n a) = refusedWord ++ (32 ∷ line (n ∷ a ∷ []))
+
+-- what the dump writes: up to 32,768 bytes of input, in the sawp reading, with 64 levels and 1,024 records
+unfoldable pub dumped : List ℕ → List ℕ
+dumped s = let front = take 32768 s in dumpText (dump (decoded sawp 64 1024 front) (messageRecords sawp front))
