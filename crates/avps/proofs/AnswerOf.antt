@@ -10,7 +10,7 @@ use Rattle.avps.specs.declared.Filled.the-variants.{Accepted, Refused}
 use Rattle.avps.specs.Answers.{countsAs, answerOf}
 
 abbrev back : Answer definition.Counts → Filled
-back (accepted c) = Accepted (record { flags = c .flags; records = c .records; tried = c .tried; length = c .length })
+back (accepted c) = Accepted (record { errors = c .errors; records = c .records; tried = c .tried; length = c .length })
 back (refused number amount) = Refused (refusal-back number amount)
 
 filled-back : (r : Filled) → back (answerOf r) ≡ r

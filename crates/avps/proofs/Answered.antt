@@ -45,7 +45,7 @@ module _ (D : Dictionary) (limit room place : ℕ) (s : List ℕ) where
         (more-records limit room run (runRecords D place s) (runCounts D place s) (k .shallow) (records-count D place 1 run) (omega (arith, k .records-is)))
 
     pub accepts : (e : ℕ) → records ≤ room → e ≡ errors D run
-        → answerOf (Accepted (record { flags = e; records = records; tried = tried; length = length s })) ≡ runAnswer D limit room place s
+        → answerOf (Accepted (record { errors = e; records = records; tried = tried; length = length s })) ≡ runAnswer D limit room place s
     unfolding answerOf countsAs runAnswer runCounts runRecords
     accepts e room-left errors-are =
         rw (errors-are, ← counted, k .tried-is, sym (k .tiles-is))

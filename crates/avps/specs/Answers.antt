@@ -17,7 +17,7 @@ use Rattle.avps.specs.declared.Filled.{Filled}
 use Rattle.avps.specs.declared.Filled.the-variants.{Accepted, Refused}
 
 unfoldable pub countsAs : Counts → definition.Counts
-countsAs c = record { flags = c .flags; records = c .records; tried = c .tried; length = c .length }
+countsAs c = record { errors = c .errors; records = c .records; tried = c .tried; length = c .length }
 
 unfoldable pub answerOf : Filled → Answer definition.Counts
 answerOf (Accepted c) = accepted (countsAs c)
@@ -30,7 +30,7 @@ runRecords D place s = records D place 1 (tree (avps D) s)
 unfoldable pub runCounts : Dictionary → ℕ → List ℕ → definition.Counts
 runCounts D place s =
     let t = tree (avps D) s in
-    record { flags = errors D t; records = length (runRecords D place s); tried = tried t; length = length s }
+    record { errors = errors D t; records = length (runRecords D place s); tried = tried t; length = length s }
 
 -- by the dictionary, the depth limit, how many records there is room for, the place and the run
 unfoldable pub runAnswer : Dictionary → ℕ → ℕ → ℕ → List ℕ → Answer definition.Counts

@@ -18,7 +18,7 @@ ghost use Rattle.avps.specs.Answers.{answerOf, runAnswer, runRecords};
 
 /// An accepted run: its error flags, number of records, headers tried and length.
 pub struct Counts {
-    pub flags: u8,
+    pub errors: u8,
     pub records: usize,
     pub tried: usize,
     pub length: usize,
@@ -77,9 +77,9 @@ pub fn parse_avps(reading: Reading, limit: usize, s: &[u8], place: u32, store: &
     if store.len() / Record::SIZE < records {
         return Filled::Refused(Refusal::NoRecords(records));
     }
-    let flags = fill_store(reading, s, place as usize, store);
+    let errors = fill_store(reading, s, place as usize, store);
     Filled::Accepted(Counts {
-        flags,
+        errors,
         records,
         tried,
         length: s.len(),

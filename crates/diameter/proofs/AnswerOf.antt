@@ -16,7 +16,7 @@ message-back (accepted m) =
     Accepted
     (record {
       header = header-back (m .header);
-      flags = m .counts .flags;
+      errors = m .counts .errors;
       records = m .counts .records;
       tried = m .counts .tried;
       length = m .counts .length;

@@ -32,25 +32,25 @@ use Rattle.diameter.specs.declared.Decoded.the-variants.{Accepted}
 use Rattle.diameter.specs.Answers.{Limited, Headed, messageAs, answerOf}
 
 -- the header is the definition's
-pub record Body (h : Header) (flags : ℕ) (s : List ℕ) : Type 0 where
+pub record Body (h : Header) (own : ℕ) (s : List ℕ) : Type 0 where
   pub passes-all : passes (headerRefusals s) ≡ true
   pub header-is : headerAs h ≡ headerOf s
-  pub flags-are : flags ≡ headerErrors s
+  pub errors-are : own ≡ headerErrors s
   pub length-is : h .length ≡ messageLength s
   pub facts : accepted-message.Headed s
   -- bytes 20..length
   pub body-is : take (h .length - 20) (drop 20 s) ≡ messageBody s
 
-pub body : (h : Header) (flags : ℕ) (s : List ℕ) → Headed h flags s → Body h flags s
+pub body : (h : Header) (own : ℕ) (s : List ℕ) → Headed h own s → Body h own s
 unfolding header.answerOf headerAlone headerAs headerOf messageBody
-body h flags s e =
+body h own s e =
     let p = passed (headerRefusals s) _ _ (sym (e .is)) in
     let hd : headerOf s ≡ headerAs h = ap (λ (m : definition.Message). m .header) (p .1) in
     let l : h .length ≡ messageLength s = ap (λ (x : rfc.Header). x .length) (sym hd) in
     record {
       passes-all = p .0;
       header-is = sym hd;
-      flags-are = sym (ap (λ (m : definition.Message). m .counts .flags) (p .1));
+      errors-are = sym (ap (λ (m : definition.Message). m .counts .errors) (p .1));
       length-is = l;
       facts = headed s (p .0);
       body-is = ap (λ (n : ℕ). take (n - 20) (drop 20 s)) l;
@@ -58,17 +58,17 @@ body h flags s e =
 
 -- ---- the answer and the store, from those of the body
 
-module _ (D : Dictionary) (limit room : ℕ) (h : Header) (flags : ℕ) (s : List ℕ) (ok : Limited limit) (e : Headed h flags s) where
+module _ (D : Dictionary) (limit room : ℕ) (h : Header) (own : ℕ) (s : List ℕ) (ok : Limited limit) (e : Headed h own s) where
   abbrev body-of : List ℕ
   body-of = take (h .length - 20) (drop 20 s)
 
   -- the body is refused, or not, where the message is past its header
   body-answer : answer (rest D limit room s) (runCounts D 20 body-of) ≡ runAnswer D limit room 20 body-of
   unfolding runAnswer runRecords messageRun messageRecords
-  body-answer = rw (body h flags s e .body-is)
+  body-answer = rw (body h own s e .body-is)
 
   past : answer (rest D limit room s) (messageOf D s) ≡ decoded D limit room s
-  past = message-past D limit room s (ok .low) (ok .high) (body h flags s e .passes-all)
+  past = message-past D limit room s (ok .low) (ok .high) (body h own s e .passes-all)
 
   pub refuses : {before after : List ℕ} {x : Filled} (n a : ℕ) → avps.answerOf x ≡ refused n a → Told D limit room 20 body-of before after x
       → (refused n a ≡ decoded D limit room s) × (after ≡ before)
@@ -80,21 +80,21 @@ module _ (D : Dictionary) (limit room : ℕ) (h : Header) (flags : ℕ) (s : Lis
 
   module _ {before after : List ℕ} {c : Counts} (t : Told D limit room 20 body-of before after (run.Accepted c)) where
     abbrev message : ℕ → Message
-    message joined = record { header = h; flags = joined; records = c .records; tried = c .tried; length = h .length }
+    message joined = record { header = h; errors = joined; records = c .records; tried = c .tried; length = h .length }
 
-    pub accepts : {x : ℕ} → x ≡ join flags (c .flags)
+    pub accepts : {x : ℕ} → x ≡ join own (c .errors)
         → (answerOf (Accepted (message x)) ≡ decoded D limit room s) × (after ≡ stored (answerOf (Accepted (message x))) (messageRecords D s) before)
     unfolding answerOf avps.answerOf stored messageAs countsAs messageOf runCounts runRecords messageRun messageRecords
     accepts joined =
-        let b = body h flags s e in
+        let b = body h own s e in
         let p = passed (rest D limit room s) (runCounts D 20 body-of) (countsAs c) (body-answer ∙ sym (t .answer-is)) in
         let counts = rw (b .body-is) at (p .1) in (
           ap accepted
               (rw (
                 b .header-is,
                 joined,
-                b .flags-are,
-                ap (λ (x : definition.Counts). x .flags) counts,
+                b .errors-are,
+                ap (λ (x : definition.Counts). x .errors) counts,
                 ap (λ (x : definition.Counts). x .records) counts,
                 ap (λ (x : definition.Counts). x .tried) counts,
                 b .length-is,

@@ -21,9 +21,9 @@ pub record Limited (limit : ℕ) : Type 0 where
   pub low : 1 ≤ limit
   pub high : limit ≤ 64
 
--- a header that was accepted, with its flags
-pub record Headed (h : Header) (flags : ℕ) (s : List ℕ) : Type 0 where
-  pub is : header.answerOf (parsed.Accepted h flags) ≡ definition.headerAlone s
+-- a header that was accepted, with its error flags
+pub record Headed (h : Header) (e : ℕ) (s : List ℕ) : Type 0 where
+  pub is : header.answerOf (parsed.Accepted h e) ≡ definition.headerAlone s
 
 -- an AVP at the front that is complete, of so many bytes
 pub record Complete (size : ℕ) (s : List ℕ) : Type 0 where
@@ -34,7 +34,7 @@ unfoldable pub messageAs : Message → definition.Message
 messageAs m =
     record {
       header = headerAs (m .header);
-      counts = record { flags = m .flags; records = m .records; tried = m .tried; length = m .length };
+      counts = record { errors = m .errors; records = m .records; tried = m .tried; length = m .length };
     }
 
 unfoldable pub answerOf : Decoded → Answer definition.Message

@@ -16,7 +16,7 @@ ghost use Rattle.diameter.specs.Answers.{Limited, Headed, Complete, answ
 /// An accepted message: its header, error flags, number of records, headers tried and consumed length.
 pub struct Message {
     pub header: Header,
-    pub flags: u8,
+    pub errors: u8,
     pub records: usize,
     pub tried: usize,
     pub length: usize,
@@ -36,12 +36,12 @@ fn parse_body(
     reading: Reading,
     limit: usize,
     header: Header,
-    flags: u8,
+    errors: u8,
     input: &[u8],
     store: &mut [u8],
 ) -> Decoded
     requires { ⌜ Limited limit ⌝ }
-    requires { ⌜ Headed header flags (now input) ⌝ }
+    requires { ⌜ Headed header errors (now input) ⌝ }
     ensures answer { λ r. ⌜ answerOf r ≡ decoded (dictionary reading) limit (capacity (length (now (store .entry)))) (now (input .entry)) ⌝ }
     ensures store { λ r. ⌜ now (store .exit) ≡ stored (answerOf r) (messageRecords (dictionary reading) (now (input .entry))) (now (store .entry)) ⌝ }
 {
@@ -50,7 +50,7 @@ fn parse_body(
     match avps::parse_avps(reading, limit, body, Header::SIZE as u32, store) {
         Filled::Accepted(run) => Decoded::Accepted(Message {
             header,
-            flags: flags::join(flags, run.flags),
+            errors: flags::join(errors, run.errors),
             records: run.records,
             tried: run.tried,
             length,
@@ -71,11 +71,11 @@ pub fn parse(reading: Reading, limit: usize, input: &[u8], store: &mut [u8]) -> 
         return Decoded::Refused(Refusal::BadDepth);
     }
     match Header::parse(input) {
-        Parsed::Accepted { header, flags } => parse_body(
+        Parsed::Accepted { header, errors } => parse_body(
             reading,
             limit,
             header,
-            flags,
+            errors,
             input,
             store,
         ),

@@ -67,7 +67,7 @@ fn dump(input: &[u8]) {
     match diameter::parse(Reading::Sawp, diameter::MOST_DEPTH, input, &mut store) {
         Decoded::Accepted(m) => {
             number(m.length as u64);
-            number(m.flags as u64);
+            number(m.errors as u64);
             number(m.records as u64);
             last(m.tried as u64);
             lines(&store, m.records);

@@ -24,12 +24,12 @@ header-back h =
     }
 
 abbrev outcome-back : Answer Message → Parsed
-outcome-back (accepted m) = Accepted (header-back (m .header)) (m .counts .flags)
+outcome-back (accepted m) = Accepted (header-back (m .header)) (m .counts .errors)
 outcome-back (refused number amount) = Refused (refusal-back number amount)
 
 outcome-is-back : (r : Parsed) → outcome-back (answerOf r) ≡ r
 unfolding headerAs answerOf
-outcome-is-back (Accepted h flags) = refl
+outcome-is-back (Accepted h e) = refl
 outcome-is-back (Refused r) = ap Refused (is-back r)
 
 pub header-as-injective : (h h′ : Header) → headerAs h ≡ headerAs h′ → h ≡ h′

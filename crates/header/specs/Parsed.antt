@@ -28,8 +28,8 @@ headerAs h =
 
 -- no records, none tried, and 20 as the length
 unfoldable pub answerOf : Parsed → Answer Message
-answerOf (Accepted h flags) =
-    accepted (record { header = headerAs h; counts = record { flags = flags; records = 0; tried = 0; length = rfc.headerSize } })
+answerOf (Accepted h e) =
+    accepted (record { header = headerAs h; counts = record { errors = e; records = 0; tried = 0; length = rfc.headerSize } })
 answerOf (Refused r) = refusedAs r
 
 -- are the bytes of a length at hand, and how many are absent?

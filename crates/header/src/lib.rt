@@ -26,7 +26,7 @@ pub struct Header {
 
 /// What reading a header answers: the header with its own error flags, or the refusal.
 pub enum Parsed {
-    Accepted { header: Header, flags: u8 },
+    Accepted { header: Header, errors: u8 },
     Refused(Refusal),
 }
 
@@ -170,7 +170,7 @@ impl Header {
         let header = Self::fields(input);
         Parsed::Accepted {
             header,
-            flags: Self::error_flags(header.flags),
+            errors: Self::error_flags(header.flags),
         }
     }
 }

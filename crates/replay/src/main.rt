@@ -56,8 +56,8 @@ fn write_header(h: Header) {
     write_u32(h.end_id);
 }
 
-fn write_counts(flags: u8, records: usize, tried: usize, length: usize) {
-    write_u8(flags);
+fn write_counts(errors: u8, records: usize, tried: usize, length: usize) {
+    write_u8(errors);
     write_u16(records);
     write_count(tried);
     write_count(length);
@@ -68,7 +68,7 @@ fn message(reading: Reading, limit: usize, input: &[u8], store: &mut [u8]) {
         Decoded::Accepted(m) => {
             write_refusal(0, 0);
             write_header(m.header);
-            write_counts(m.flags, m.records, m.tried, m.length);
+            write_counts(m.errors, m.records, m.tried, m.length);
         }
         Decoded::Refused(why) => write_refusal(why.number(), why.amount()),
     }
@@ -76,10 +76,10 @@ fn message(reading: Reading, limit: usize, input: &[u8], store: &mut [u8]) {
 
 fn header_alone(input: &[u8]) {
     match Header::parse(input) {
-        Parsed::Accepted { header, flags } => {
+        Parsed::Accepted { header, errors } => {
             write_refusal(0, 0);
             write_header(header);
-            write_counts(flags, 0, 0, Header::SIZE);
+            write_counts(errors, 0, 0, Header::SIZE);
         }
         Parsed::Refused(why) => write_refusal(why.number(), why.amount()),
     }
@@ -89,7 +89,7 @@ fn one_avp(reading: Reading, limit: usize, input: &[u8], store: &mut [u8]) {
     match diameter::parse_avp(reading, limit, input, store) {
         Filled::Accepted(one) => {
             write_refusal(0, 0);
-            write_counts(one.flags, one.records, one.tried, one.length);
+            write_counts(one.errors, one.records, one.tried, one.length);
         }
         Filled::Refused(why) => write_refusal(why.number(), why.amount()),
     }

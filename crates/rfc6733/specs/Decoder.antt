@@ -15,7 +15,7 @@ use Rattle.rfc6733.specs.Record.{Record, recordSize, laid, avps, errors,
 
 -- what an acceptance returns beside a header: error flags, number of records, headers tried, consumed length
 pub record Counts : Type 0 where
-  pub flags : ℕ
+  pub errors : ℕ
   pub records : ℕ
   pub tried : ℕ
   pub length : ℕ
@@ -29,7 +29,7 @@ pub record Message : Type 0 where
 unfoldable pub headerAlone : List ℕ → Answer Message
 headerAlone s =
     answer (headerRefusals s)
-    (record { header = headerOf s; counts = record { flags = headerErrors s; records = 0; tried = 0; length = headerSize } })
+    (record { header = headerOf s; counts = record { errors = headerErrors s; records = 0; tried = 0; length = headerSize } })
 
 -- ---- the limits
 
@@ -70,7 +70,7 @@ messageOf D s =
       header = headerOf s;
       counts =
           record {
-            flags = join (headerErrors s) (errors D (messageRun D s));
+            errors = join (headerErrors s) (errors D (messageRun D s));
             records = length (messageRecords D s);
             tried = tried (messageRun D s);
             length = messageLength s;
@@ -97,7 +97,7 @@ aloneRefusals D limit room s =
 unfoldable pub aloneOf : Dictionary → List ℕ → Counts
 aloneOf D s =
     record {
-      flags = errors D (aloneRun D s);
+      errors = errors D (aloneRun D s);
       records = length (aloneRecords D s);
       tried = tried (aloneRun D s);
       length = avpSize s;

@@ -26,7 +26,7 @@ recordLines (r ∷ rs) = recordLine r ∷ recordLines rs
 
 -- length, message flags, records, tried
 abbrev pub firstLine : Counts → List ℕ
-firstLine c = c .length ∷ c .flags ∷ c .records ∷ c .tried ∷ []
+firstLine c = c .length ∷ c .errors ∷ c .records ∷ c .tried ∷ []
 
 unfoldable pub dump : Answer Message → List Record → Dump
 dump (accepted m) rs = lines (firstLine (m .counts) ∷ recordLines rs)

@@ -20,12 +20,12 @@ readingOf false = Sawp
 unfoldable pub fieldsGiven : ℕ → ℕ → ℕ → ℕ → ℕ → Fields
 fieldsGiven f c a h e = record { flags = f; code = c; appId = a; hopId = h; endId = e }
 
--- number, amount; flags, records, tried, length; the header's fields
+-- number, amount; error flags, records, tried, length; the header's fields
 abbrev pub result : ℕ → ℕ → Counts → Header → List ℕ
 result n a c h =
     n
     ∷ a
-    ∷ c .flags
+    ∷ c .errors
     ∷ c .records
     ∷ c .tried
     ∷ c .length
@@ -40,7 +40,7 @@ result n a c h =
 
 -- so many bytes, and nothing else
 abbrev pub bytesAlone : ℕ → Counts
-bytesAlone n = record { flags = 0; records = 0; tried = 0; length = n }
+bytesAlone n = record { errors = 0; records = 0; tried = 0; length = n }
 
 abbrev pub noHeader : Header
 noHeader = record { version = 0; length = 0; flags = 0; code = 0; appId = 0; hopId = 0; endId = 0 }

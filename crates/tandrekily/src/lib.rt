@@ -29,7 +29,7 @@ ghost use Rattle.tandrekily.specs.Results.{readingOf, fieldsGiven, resul
 pub const RESULT: usize = 13;
 
 const NO_COUNTS: Counts = Counts {
-    flags: 0,
+    errors: 0,
     records: 0,
     tried: 0,
     length: 0,
@@ -57,7 +57,7 @@ fn lay(number: u64, amount: usize, counts: Counts, header: Header) -> [u64; RESU
     [
         number,
         amount as u64,
-        counts.flags as u64,
+        counts.errors as u64,
         counts.records as u64,
         counts.tried as u64,
         counts.length as u64,
@@ -84,7 +84,7 @@ fn of_message(d: Decoded) -> [u64; RESULT]
         Decoded::Accepted(m) => {
             let header = m.header;
             let counts = Counts {
-                flags: m.flags,
+                errors: m.errors,
                 records: m.records,
                 tried: m.tried,
                 length: m.length,
@@ -99,9 +99,9 @@ fn of_header(p: Parsed) -> [u64; RESULT]
     ensures { λ r. ⌜ r ≡ messageResult (header.answerOf p) ⌝ }
 {
     match p {
-        Parsed::Accepted { header, flags } => {
+        Parsed::Accepted { header, errors } => {
             let counts = Counts {
-                flags,
+                errors,
                 records: 0,
                 tried: 0,
                 length: Header::SIZE,
@@ -127,7 +127,7 @@ fn of_written(w: Written) -> [u64; RESULT]
     match w {
         Written::Accepted(total) => {
             let counts = Counts {
-                flags: 0,
+                errors: 0,
                 records: 0,
                 tried: 0,
                 length: total,

@@ -13,7 +13,7 @@ use Rattle.diameter.proofs.Bodies.{Body, body, refuses, accepts}
 use Rattle.diameter.proofs.parse_body.Statement.{statement}
 use Rattle.diameter.proofs.parse_body.Tie as tie
 
-headed : (b : tie.Start) → Body (b .args .header) (b .args .flags) (now (b .args .input))
+headed : (b : tie.Start) → Body (b .args .header) (b .args .errors) (now (b .args .input))
 headed b = body _ _ _ (b .pre .1)
 
 -- what was answered of the body
