@@ -58,8 +58,8 @@ static void put(uint64_t number, int bytes) {
 // The header as on the wire, flags, counts and length, and all records.
 static void put_all(const uint64_t *read) {
     static const int sizes[] = {1, 3, 1, 3, 4, 4, 4};
-    for (int i = 0; i < 7; i++) put(read[TANDREKILY_VERSION + i], sizes[i]);
-    for (int i = TANDREKILY_FLAGS; i <= TANDREKILY_LENGTH; i++) put(read[i], 8);
+    for (int i = 0; i < 7; i++) put(read[TANDREKILY_MESSAGE_VERSION + i], sizes[i]);
+    for (int i = TANDREKILY_ERRORS; i <= TANDREKILY_LENGTH; i++) put(read[i], 8);
     fwrite(store, TANDREKILY_RECORD_SIZE, (size_t)read[TANDREKILY_RECORDS], stdout);
 }
 

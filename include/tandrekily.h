@@ -13,6 +13,8 @@
 //   - A refusal changes no byte of `store` or `out`.
 //   - Nothing is allocated or kept between calls, so calls may run in several threads at once.
 //   - A call takes less than 64 KiB of stack; bench/stack measures it at the deepest nesting.
+//   - An acceptance writes the whole of `store`: the records, and zero after them. So lend no more than the message needs: a
+//     large store is cleared again for each small message.
 #ifndef TANDREKILY_H
 #define TANDREKILY_H
 
@@ -24,17 +26,20 @@
 extern "C" {
 #endif
 
+// The version of this library.
+#define TANDREKILY_VERSION "0.1.0"
+
 // ---- results
 
 // The places in a result. All after the amount are 0 in a refusal.
 enum tandrekily_place {
     TANDREKILY_NUMBER = 0,      // the answer's number, listed below
     TANDREKILY_AMOUNT = 1,      // what a refusal returns besides; 0 if accepted
-    TANDREKILY_FLAGS = 2,       // error flags of all that was read, joined
+    TANDREKILY_ERRORS = 2,      // error flags of all that was read, joined
     TANDREKILY_RECORDS = 3,     // records in the store
     TANDREKILY_TRIED = 4,       // AVP headers tried, those in groups that do not tile too
     TANDREKILY_LENGTH = 5,      // bytes consumed, or written
-    TANDREKILY_VERSION = 6,     // from here on the fields of a message's header
+    TANDREKILY_MESSAGE_VERSION = 6, // from here on the fields of a message's header
     TANDREKILY_MESSAGE_LENGTH = 7,
     TANDREKILY_MESSAGE_FLAGS = 8,
     TANDREKILY_COMMAND_CODE = 9,
@@ -115,7 +120,7 @@ enum tandrekily_kind {
 
 // Decodes the message at the front of `input` into records in `store`: as RFC 6733 says where `rfc`, else as the Rust crate
 // sawp-diameter does. The store holds `store_length` / 32 records, and `limit` is the deepest level that may be read.
-//   accepted: the header, the message's flags, records, tried, the message's length; the rest of the store is zero
+//   accepted: the header, the message's error flags, records, tried, the message's length; the rest of the store is zero
 //   refused, in this order: BAD_DEPTH, INCOMPLETE, NOT_VERSION, INCOMPLETE of 4 bytes, BAD_LENGTH under 4, INCOMPLETE of
 //   the length, BAD_LENGTH under 20, NOT_TILED, TOO_DEEP, NO_RECORDS
 // With a store of length 0 it says how many records are needed.
@@ -123,12 +128,12 @@ void tandrekily_message(bool rfc, size_t limit, const uint8_t *input, size_t inp
                         uint64_t result[TANDREKILY_RESULT]);
 
 // Reads the header at the front of `input` alone. The bytes of the whole message must be there.
-//   accepted: the header, its own flags, 20 as the length
+//   accepted: the header, its own error flags, 20 as the length
 //   refused: INCOMPLETE, NOT_VERSION or BAD_LENGTH, in the order of a message
 void tandrekily_header(const uint8_t *input, size_t input_length, uint64_t result[TANDREKILY_RESULT]);
 
 // Decodes the one AVP at the front of `input`, at depth 1, into records in `store`.
-//   accepted: no header; its flags, records, tried, and its padded size as the length; the rest of the store is zero
+//   accepted: no header; its error flags, records, tried, and its padded size as the length; the rest of the store is zero
 //   refused, in this order: BAD_DEPTH, INCOMPLETE or BAD_LENGTH, TOO_DEEP, NO_RECORDS
 void tandrekily_avp(bool rfc, size_t limit, const uint8_t *input, size_t input_length, uint8_t *store, size_t store_length,
                     uint64_t result[TANDREKILY_RESULT]);

@@ -105,7 +105,8 @@ impl Reading {
 pub struct Limits {
     /// 1 to 64, where AVPs outside of groups have depth 1; any other limit is refused.
     pub depth: usize,
-    /// Only this many records of the store are used, if it holds more. What is past them stays as it was lent.
+    /// Only this many records of the store are used, if it holds more: it is as if the store ended there, and what is past them
+    /// stays as it was lent. Where the store is large and the messages are small, this saves clearing all of it.
     pub records: usize,
 }
 
@@ -179,7 +180,8 @@ impl<'a> OneAvp<'a> {
 
 /// Decodes the message at the front of `input` into records in `store`, which holds one for every [`Record::SIZE`] bytes.
 ///
-/// After an acceptance every byte of the store past the last record is 0. After a refusal the store is as it was lent.
+/// After an acceptance every byte past the last record is 0, to the end of the store or of the records that [`Limits`] allows. After a
+/// refusal the store is as it was lent.
 pub fn decode<'a>(
     input: &'a [u8],
     reading: Reading,
