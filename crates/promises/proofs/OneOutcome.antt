@@ -50,7 +50,6 @@ use Rattle.count.proofs.count_run.Reads as count-run
 use Rattle.avps.proofs.parse_avps.Reads as parse-avps
 use Rattle.diameter.proofs.parse.Reads as parse
 use Rattle.diameter.proofs.parse_avp.Reads as parse-avp
-use Rattle.rules.proofs.has_vendor.Reads as record-has-vendor
 use Rattle.rules.proofs.header_size.Reads as record-header-size
 use Rattle.rules.proofs.keepers.Reads as keepers
 use Rattle.writer.proofs.write.Reads as write
@@ -260,9 +259,6 @@ parse-avp-one κs a r r′ s s′ p q =
     (e, cc)
 
 -- ---- rules
-
-record-has-vendor-one : Single record-has-vendor.Post
-record-has-vendor-one κs a r r′ s p q = p ∙ sym q
 
 record-header-size-one : Single record-header-size.Post
 record-header-size-one κs a r r′ s p q = p ∙ sym q

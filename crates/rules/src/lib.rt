@@ -17,27 +17,17 @@ ghost use Rattle.rules.specs.Rules.{keepsLeaf};
 // A table nests at most so deep.
 const MOST_DEPTH: u8 = 64;
 
-/// Has the record's AVP a Vendor-ID?
-pub fn has_vendor(r: Record) -> bool
-    ensures { λ b. ⌜ b ≡ bit vendorBit (r .flags) ⌝ }
-{
-    r.flags & AVP::VENDOR_SPECIFIC_FLAG != 0
-}
-
 /// The size of the header of the record's AVP.
 pub fn header_size(r: Record) -> usize
     ensures { λ n. ⌜ n ≡ headOf (recordAs r) ⌝ }
 {
-    if has_vendor(r) {
-        return AVP::VENDOR_SIZE;
-    }
-    AVP::PRE_LENGTH_SIZE
+    AVP::header_size_of(r.flags)
 }
 
 fn keeps_vendor(r: Record) -> bool
     ensures { λ b. ⌜ b ≡ (bit vendorBit (r .flags) || eqb (r .vendor) 0) ⌝ }
 {
-    if has_vendor(r) {
+    if AVP::vendor_specific_flag(r.flags) {
         return true;
     }
     r.vendor == 0

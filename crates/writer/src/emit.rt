@@ -1,7 +1,7 @@
 // Writes the AVPs of a table that is known to keep the rules and to fit: the run and the AVP call each other in turn.
 use attribute::kinds::GROUPED;
+use avp::AVP;
 use record::Record;
-use rules::has_vendor;
 use rules::header_size;
 ghost use mathlib.Core.Path.{_≡_};
 ghost use Prim.Native.Nat.{_+_, _≤_, _<_};
@@ -56,7 +56,7 @@ fn put_head(r: Record, n: u32, out: &mut [u8])
     put_u32(out, 0, r.code);
     put_u8(out, 4, r.flags);
     put_u24(out, 5, n);
-    if !has_vendor(r) {
+    if !AVP::vendor_specific_flag(r.flags) {
         return;
     }
     put_u32(out, 8, r.vendor);

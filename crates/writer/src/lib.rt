@@ -3,6 +3,7 @@
 mod emit;
 mod size;
 
+use header::Header;
 use record::Record;
 use refusal::Refusal;
 use size::Measured;
@@ -29,11 +30,6 @@ pub enum Written {
 }
 
 impl Fields {
-    const VERSION: u8 = 1;
-
-    // The header's size.
-    const SIZE: usize = 20;
-
     // The command code and the message's length are numbers of 24 bits.
     const MOST_CODE: u32 = 0xFF_FFFF;
 
@@ -44,7 +40,7 @@ impl Fields {
         requires { ⌜ 20 ≤ length (now out) ⌝ }
         ensures { λ _. ⌜ now (out .exit) ≡ over (pack (headerFields (fieldsAs self) n)) (now (out .entry)) ⌝ }
     {
-        emit::put_u8(out, 0, Self::VERSION);
+        emit::put_u8(out, 0, Header::VERSION);
         emit::put_u24(out, 1, n);
         emit::put_u8(out, 4, self.flags);
         emit::put_u24(out, 5, self.code);
@@ -74,15 +70,15 @@ pub fn write(fields: Fields, table: &[u8], pool: &[u8], out: &mut [u8]) -> Writt
     let Measured::Size { records: _, size } = size::size_run(
         table,
         1,
-        Fields::MOST_LENGTH - Fields::SIZE,
+        Fields::MOST_LENGTH - Header::SIZE,
     ) else {
         return Written::Refused(Refusal::TooLong);
     };
-    let total = Fields::SIZE + size;
+    let total = Header::SIZE + size;
     if out.len() < total {
         return Written::Refused(Refusal::NoRoom(total));
     }
-    emit::emit_run(table, pool, 1, &mut out[Fields::SIZE..]);
+    emit::emit_run(table, pool, 1, &mut out[Header::SIZE..]);
     fields.put(total as u32, out);
     Written::Accepted(total)
 }

@@ -25,12 +25,12 @@ returns c =
     let code = flags .before .before .before .before in
     let b = start size in
     rw (size .put-u24 .ensures, flags .put-u8 .ensures, code .put-u32 .ensures)
-    (head-put (recordAs (b .args .r)) (b .args .n) (now (b .args .out)) (sym (c .before .has-vendor .ensures) ∙ not-true _ (c .if1 .taken))
+    (head-put (recordAs (b .args .r)) (b .args .n) (now (b .args .out)) (sym (c .before .vendor-specific-flag .ensures) ∙ not-true _ (c .if1 .taken))
     (omega (arith, b .pre)))
 
 vendor-there : (c : tie.Else1) → let r = recordAs (start (c .before .before .before .before) .args .r) in bit vendorBit (r .flags) ≡ true
 unfolding recordAs
-vendor-there c = sym (c .before .has-vendor .ensures) ∙ not-false _ (c .if1 .left)
+vendor-there c = sym (c .before .vendor-specific-flag .ensures) ∙ not-false _ (c .if1 .left)
 
 put-u32-requires-2 : tie.Need-put-u32-requires-2
 put-u32-requires-2 c κs =
