@@ -1,6 +1,7 @@
 // The AVP at the front of a slice, and whether AVPs tile.
 // This crate knows an AVP's header and padding, and nothing of what its data mean.
 use avp::AVP;
+use octets::Available;
 use refusal::Refusal;
 ghost use Prim.Native.Nat.{_≤_};
 ghost use mathlib.Core.Path.{_≡_};
@@ -53,8 +54,8 @@ fn refusal(s: &[u8]) -> Refusal
     if length < AVP::PRE_LENGTH_SIZE {
         return Refusal::BadLength;
     }
-    if available < length {
-        return Refusal::Incomplete(length - available);
+    if let Available::Absent(absent) = octets::length(length, available) {
+        return Refusal::Incomplete(absent);
     }
     let header_size = AVP::header_size_of(s[4]);
     if length < header_size {

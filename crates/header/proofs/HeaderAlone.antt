@@ -18,7 +18,7 @@ use Rattle.refusal.specs.declared.Refusal.the-variants.{Incomplete, NotVersion,
 use Rattle.header.specs.declared.Header.{Header}
 use Rattle.header.specs.declared.Parsed.the-variants.{Accepted, Refused}
 use Rattle.header.specs.Parsed.{headerAs, answerOf}
-use Rattle.header.proofs.Availability.{Missing}
+use Rattle.octets.proofs.Availability.{Missing}
 
 -- the flags byte of a header that was read
 flags-are : (s : List ℕ) (h : Header) → headerAs h ≡ headerOf s → h .flags ≡ getD s 4 0

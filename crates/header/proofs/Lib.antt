@@ -1,4 +1,3 @@
 pub mod AnswerOf
-pub mod Availability
 pub mod Fields
 pub mod HeaderAlone

@@ -1,8 +1,5 @@
 -- What reading a header answers, as document 01's answer.
 -- Assumes nothing: these are definitions.
-use Prim.Native.Nat.{ℕ, _-_}
-use mathlib.Core.Bool.{cond}
-use lib.Dec.{ltb}
 use Rattle.rfc6733.specs.Answer.{Answer, accepted}
 use Rattle.rfc6733.specs.Header as rfc
 use Rattle.rfc6733.specs.Decoder.{Message}
@@ -10,8 +7,6 @@ use Rattle.refusal.specs.Refusals.{refusedAs}
 use Rattle.header.specs.declared.Header.{Header}
 use Rattle.header.specs.declared.Parsed.{Parsed}
 use Rattle.header.specs.declared.Parsed.the-variants.{Accepted, Refused}
-use Rattle.header.specs.declared.Available.{Available}
-use Rattle.header.specs.declared.Available.the-variants.{Enough, Absent}
 
 -- a header of the code as one of the definition
 unfoldable pub headerAs : Header → rfc.Header
@@ -31,7 +26,3 @@ unfoldable pub answerOf : Parsed → Answer Message
 answerOf (Accepted h e) =
     accepted (record { header = headerAs h; counts = record { errors = e; records = 0; tried = 0; length = rfc.headerSize } })
 answerOf (Refused r) = refusedAs r
-
--- are the bytes of a length at hand, and how many are absent?
-unfoldable pub availableOf : ℕ → ℕ → Available
-availableOf length at-hand = cond (ltb at-hand length) (Absent (length - at-hand)) Enough

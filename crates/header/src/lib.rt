@@ -1,6 +1,7 @@
 // The Diameter header: its constants, its flag questions, and reading it alone.
 // This crate knows the header's 20 bytes, and nothing of AVPs.
 use flags::ErrorFlags;
+use octets::Available;
 use refusal::Refusal;
 ghost use mathlib.Core.Path.{_≡_};
 ghost use mathlib.Core.Bool.{not};
@@ -10,7 +11,7 @@ ghost use lib.Dec.{eqb};
 ghost use Rattle.rfc6733.specs.Flags.{bit, flag, nonZeroReserved};
 ghost use Rattle.rfc6733.specs.Header.{requestBit, proxiableBit, errorBit, retransmittedBit, headerReserved, headerSize, headerOf, avpsLength};
 ghost use Rattle.rfc6733.specs.Decoder.{headerAlone};
-ghost use Rattle.header.specs.Parsed.{headerAs, answerOf, availableOf};
+ghost use Rattle.header.specs.Parsed.{headerAs, answerOf};
 
 pub struct Header {
     pub version: u8,
@@ -28,22 +29,6 @@ pub struct Header {
 pub enum Parsed {
     Accepted { header: Header, errors: u8 },
     Refused(Refusal),
-}
-
-/// Are as many bytes at hand as a length states?
-pub enum Available {
-    Enough,
-    Absent(usize),
-}
-
-/// Whether the bytes of a length are at hand. The bytes that were read before the length count in both numbers.
-pub fn length(length: usize, available: usize) -> Available
-    ensures { λ r. ⌜ r ≡ availableOf length available ⌝ }
-{
-    if available < length {
-        return Available::Absent(length - available);
-    }
-    Available::Enough
 }
 
 impl Header {
@@ -161,7 +146,7 @@ impl Header {
         if stated < Self::PRE_LENGTH_SIZE {
             return Parsed::Refused(Refusal::BadLength);
         }
-        if let Available::Absent(absent) = length(stated, available) {
+        if let Available::Absent(absent) = octets::length(stated, available) {
             return Parsed::Refused(Refusal::Incomplete(absent));
         }
         if stated < Self::SIZE {

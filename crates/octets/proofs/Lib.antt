@@ -2,3 +2,4 @@ pub mod Layouts
 pub mod Lists
 pub mod Numbers
 pub mod Runs
+pub mod Availability

@@ -22,7 +22,7 @@ use Rattle.attribute.proofs.Attribute.read.Reads as attribute-read
 use Rattle.attribute.proofs.kind_table.Reads as kind-table
 use Rattle.attribute.proofs.kind.Reads as kind
 use Rattle.attribute.proofs.is_grouped.Reads as is-grouped
-use Rattle.header.proofs.length.Reads as length
+use Rattle.octets.proofs.at_hand.length.Reads as length
 use Rattle.header.proofs.Header.is_request.Reads as is-request
 use Rattle.header.proofs.Header.is_proxiable.Reads as is-proxiable
 use Rattle.header.proofs.Header.is_error.Reads as is-error

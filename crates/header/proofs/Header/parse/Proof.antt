@@ -9,8 +9,8 @@ use denote.Ref.{now}
 use lib.ListN.{length}
 use borrow.Author.Needs.{needs}
 use Rattle.rfc6733.specs.Header.{messageLength}
-use Rattle.header.specs.declared.Available.the-variants.{Enough, Absent}
-use Rattle.header.proofs.Availability.{says}
+use Rattle.octets.specs.declared.at_hand.Available.the-variants.{Enough, Absent}
+use Rattle.octets.proofs.Availability.{says}
 use Rattle.octets.proofs.Numbers.{read-at}
 use Rattle.header.proofs.HeaderAlone.{no-byte, other-version, under-four, length-under-four, cut-off, length-under-header, whole}
 use Rattle.header.proofs.Header.parse.Statement.{statement}

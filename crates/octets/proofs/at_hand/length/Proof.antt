@@ -2,9 +2,9 @@
 -- Assumes nothing.
 use borrow.Author.Needs.{needs}
 use native.Mathlib.Omega.{arith}
-use Rattle.header.proofs.Availability.{absent, enough}
-use Rattle.header.proofs.length.Statement.{statement}
-use Rattle.header.proofs.length.Tie as tie
+use Rattle.octets.proofs.Availability.{absent, enough}
+use Rattle.octets.proofs.at_hand.length.Statement.{statement}
+use Rattle.octets.proofs.at_hand.length.Tie as tie
 
 returns : tie.Need-returns
 returns c = absent _ _ (omega arith)

@@ -6,9 +6,9 @@ use mathlib.Core.Path.{_≡_, refl}
 use mathlib.Core.Bool.{Bool, true, false, cond}
 use lib.Dec.{ltb}
 use borrow.Author.Tests.{lt-ltb, le-ltb, ltb-true, ltb-false}
-use Rattle.header.specs.declared.Available.{Available}
-use Rattle.header.specs.declared.Available.the-variants.{Enough, Absent}
-use Rattle.header.specs.Parsed.{availableOf}
+use Rattle.octets.specs.declared.at_hand.Available.{Available}
+use Rattle.octets.specs.declared.at_hand.Available.the-variants.{Enough, Absent}
+use Rattle.octets.specs.AtHand.{availableOf}
 
 module _ (stated available : ℕ) where
   pub absent : available < stated → Absent (stated - available) ≡ availableOf stated available
