@@ -90,6 +90,7 @@ pub struct Attribute {
 }
 
 impl Attribute {
+    /// The attribute by the Rust's names, in which Destination-Realm is 235. `read` has those of a reading.
     pub fn new(val: u32) -> Self
         ensures { λ r. ⌜ r ≡ attributeOf val ⌝ }
     {
@@ -195,7 +196,8 @@ fn entry(kinds: &[u8], code: u32) -> u8
     }
 }
 
-/// The kind of an AVP by its code and vendor, from the table of its reading. The vendor is 0 without the vendor bit.
+/// The kind of an AVP by its code and vendor. The vendor is 0 without the vendor bit, and `kinds` is what `kind_table` made for the same
+/// reading: with the other's table it answers that table's kinds, and asks for the vendor as this reading does.
 pub fn kind(reading: Reading, kinds: &[u8], code: u32, vendor: u32) -> u8
     ensures { λ r. ⌜ r ≡ kindBy (now (kinds .entry)) reading code vendor ⌝ }
 {

@@ -121,7 +121,7 @@ impl Record {
         put_u64(store, 24, self.value);
     }
 
-    /// Puts the record at the front of a store, if there is room.
+    /// Puts the record at the front of a store, if there is room. Of a length or padding over 24 bits it puts the lowest 24.
     pub fn put(self, store: &mut [u8]) -> bool
         ensures is { λ r. ⌜ r ≡ leb recordSize (length (now (store .entry))) ⌝ }
         ensures store { λ r. ⌜ now (store .exit) ≡ put (recordAs self) (now (store .entry)) ⌝ }
