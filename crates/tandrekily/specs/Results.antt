@@ -7,8 +7,8 @@ use mathlib.Core.List.{List, [], _∷_}
 use lib.ListN.{length}
 use Rattle.rfc6733.specs.Answer.{Answer, accepted, refused}
 use Rattle.rfc6733.specs.Header.{Header}
-use Rattle.rfc6733.specs.Decoder.{Counts, Message, capacity, decoded, avpAlone}
-use Rattle.rfc6733.specs.Writer.{Fields}
+use Rattle.rfc6733.specs.Decoder.{Counts, Message, capacity, decoded, messageRecords, avpAlone, aloneRecords, stored}
+use Rattle.rfc6733.specs.Writer.{Fields, written, tableBytes, output}
 use Rattle.attribute.specs.Attributes.{dictionary}
 use Rattle.attribute.specs.declared.Reading.{Reading}
 use Rattle.attribute.specs.declared.Reading.the-variants.{Sawp, Rfc}
@@ -71,3 +71,19 @@ messageAsked rfc limit store input = decoded (dictionary (readingOf rfc)) limit 
 
 abbrev pub avpAsked : Bool → ℕ → List ℕ → List ℕ → Answer Counts
 avpAsked rfc limit store input = avpAlone (dictionary (readingOf rfc)) limit (capacity (length store)) input
+
+-- a table to be written, with a lent output
+abbrev pub writeAsked : Fields → List ℕ → List ℕ → List ℕ → Answer ℕ
+writeAsked f table pool out = written f table pool (length out)
+
+-- ---- what the lent memory holds afterwards
+
+abbrev pub messageStore : Bool → ℕ → List ℕ → List ℕ → List ℕ
+messageStore rfc limit store input =
+    stored (messageAsked rfc limit store input) (messageRecords (dictionary (readingOf rfc)) input) store
+
+abbrev pub avpStore : Bool → ℕ → List ℕ → List ℕ → List ℕ
+avpStore rfc limit store input = stored (avpAsked rfc limit store input) (aloneRecords (dictionary (readingOf rfc)) input) store
+
+abbrev pub writeOutput : Fields → List ℕ → List ℕ → List ℕ → List ℕ
+writeOutput f table pool out = output (writeAsked f table pool out) (tableBytes f table pool) out

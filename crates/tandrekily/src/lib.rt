@@ -10,12 +10,9 @@ use refusal::Refusal;
 use writer::Fields;
 use writer::Written;
 ghost use mathlib.Core.Path.{_≡_};
-ghost use lib.ListN.{length};
 ghost use Rattle.rfc3629.specs.Utf8.{wellFormed};
-ghost use Rattle.rfc6733.specs.Decoder.{messageRecords, aloneRecords, headerAlone, stored};
+ghost use Rattle.rfc6733.specs.Decoder.{headerAlone};
 ghost use Rattle.rfc6733.specs.Signed.{unixSeconds};
-ghost use Rattle.rfc6733.specs.Writer.{written, tableBytes, output};
-ghost use Rattle.attribute.specs.Attributes.{dictionary};
 ghost use Rattle.header.specs.Parsed as header;
 ghost use Rattle.header.specs.Parsed.{headerAs};
 ghost use Rattle.refusal.specs.Refusals.{numberOf, amountOf};
@@ -23,7 +20,7 @@ ghost use Rattle.avps.specs.Answers as avps;
 ghost use Rattle.avps.specs.Answers.{countsAs};
 ghost use Rattle.diameter.specs.Answers.{answerOf};
 ghost use Rattle.writer.specs.Answers as writer;
-ghost use Rattle.tandrekily.specs.Results.{readingOf, fieldsGiven, result, refusal, messageResult, avpResult, writtenResult, messageAsked, avpAsked};
+ghost use Rattle.tandrekily.specs.Results.{readingOf, fieldsGiven, result, refusal, messageResult, avpResult, writtenResult, messageAsked, avpAsked, writeAsked, messageStore, avpStore, writeOutput};
 
 /// How many numbers a result has. include/tandrekily.h names them.
 pub const RESULT: usize = 13;
@@ -148,7 +145,7 @@ pub extern "C" fn tandrekily_message(
     result: &mut [u64; RESULT],
 )
     ensures result { λ _. ⌜ now (result .exit) ≡ messageResult (messageAsked rfc limit (now (store .entry)) (now (input .entry))) ⌝ }
-    ensures store { λ _. ⌜ now (store .exit) ≡ stored (messageAsked rfc limit (now (store .entry)) (now (input .entry))) (messageRecords (dictionary (readingOf rfc)) (now (input .entry))) (now (store .entry)) ⌝ }
+    ensures store { λ _. ⌜ now (store .exit) ≡ messageStore rfc limit (now (store .entry)) (now (input .entry)) ⌝ }
 {
     *result = of_message(diameter::parse(reading_of(rfc), limit, input, store));
 }
@@ -171,7 +168,7 @@ pub extern "C" fn tandrekily_avp(
     result: &mut [u64; RESULT],
 )
     ensures result { λ _. ⌜ now (result .exit) ≡ avpResult (avpAsked rfc limit (now (store .entry)) (now (input .entry))) ⌝ }
-    ensures store { λ _. ⌜ now (store .exit) ≡ stored (avpAsked rfc limit (now (store .entry)) (now (input .entry))) (aloneRecords (dictionary (readingOf rfc)) (now (input .entry))) (now (store .entry)) ⌝ }
+    ensures store { λ _. ⌜ now (store .exit) ≡ avpStore rfc limit (now (store .entry)) (now (input .entry)) ⌝ }
 {
     *result = of_avp(diameter::parse_avp(reading_of(rfc), limit, input, store));
 }
@@ -189,8 +186,8 @@ pub extern "C" fn tandrekily_write(
     out: &mut [u8],
     result: &mut [u64; RESULT],
 )
-    ensures result { λ _. ⌜ now (result .exit) ≡ writtenResult (written (fieldsGiven flags code «app_id» «hop_id» «end_id») (now (table .entry)) (now (pool .entry)) (length (now (out .entry)))) ⌝ }
-    ensures out { λ _. ⌜ now (out .exit) ≡ output (written (fieldsGiven flags code «app_id» «hop_id» «end_id») (now (table .entry)) (now (pool .entry)) (length (now (out .entry)))) (tableBytes (fieldsGiven flags code «app_id» «hop_id» «end_id») (now (table .entry)) (now (pool .entry))) (now (out .entry)) ⌝ }
+    ensures result { λ _. ⌜ now (result .exit) ≡ writtenResult (writeAsked (fieldsGiven flags code «app_id» «hop_id» «end_id») (now (table .entry)) (now (pool .entry)) (now (out .entry))) ⌝ }
+    ensures out { λ _. ⌜ now (out .exit) ≡ writeOutput (fieldsGiven flags code «app_id» «hop_id» «end_id») (now (table .entry)) (now (pool .entry)) (now (out .entry)) ⌝ }
 {
     let fields = Fields {
         flags,
