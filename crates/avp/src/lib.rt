@@ -25,6 +25,9 @@ impl AVP {
 
     pub const CODE_SIZE: usize = 4;
 
+    // AVPs nest at most so deep: the largest depth limit.
+    pub const MOST_DEPTH: usize = 64;
+
     // Padding fills the last word.
     pub const WORD: usize = 4;
 

@@ -1,55 +1,77 @@
 -- What was counted of a run leads to the answer, in the order of the refusals; and a store that was filled and cleared is the one that
 -- the answer leaves.
 -- Assumes nothing.
-use Prim.Native.Nat.{ℕ, _≤_, _<_}
+use Prim.Native.Nat.{ℕ, _+_, _≤_, _<_}
 use mathlib.Core.Path.{_≡_, sym, _∙_}
-use mathlib.Core.Bool.{true, false}
-use mathlib.Core.List.{List}
+use mathlib.Core.Bool.{true}
+use mathlib.Core.List.{List, _++_}
 use native.Mathlib.Omega.{arith}
 use lib.ListN.{length}
-use Rattle.octets.specs.Run.{Tree, tree, tiles, deepest}
+use borrow.Author.Tests.{lt-ltb, le-ltb}
+use Rattle.octets.specs.Run.{Tree, tree}
+use Rattle.rfc6733.specs.Answer.{answer}
 use Rattle.rfc6733.specs.Dictionary.{Dictionary}
-use Rattle.rfc6733.specs.Record.{avps, errors}
-use Rattle.rfc6733.specs.Decoder.{stored}
-use Rattle.rfc6733.proofs.Decoded.{deeper, more-records, fits}
+use Rattle.rfc6733.specs.Record.{avps, errors, recordCount}
+use Rattle.rfc6733.specs.Decoder.{allowed, limitRefusals, tileRefusals, depthRefusals, roomRefusals, fitRefusals, runRecords, runCounts, runRefusals, stored}
+use Rattle.rfc6733.proofs.Answers.{answer-first}
+use Rattle.rfc6733.proofs.Decoded.{limit-good, more-records, fits}
 use Rattle.rfc6733.proofs.RunRecords.{records-count}
-use Rattle.count.proofs.Counts.{Known}
-use Rattle.refusal.specs.declared.Refusal.the-variants.{NotTiled, TooDeep, NoRecords}
+use Rattle.count.specs.declared.Counted.the-variants as count
+use Rattle.count.specs.Counts as counted
+use Rattle.count.proofs.Counts.{Fitting}
+use Rattle.refusal.specs.declared.Refusal.{Refusal}
+use Rattle.refusal.specs.declared.Refusal.the-variants.{NoRecords, TooLong}
 use Rattle.avps.specs.declared.Counts.{Counts}
 use Rattle.avps.specs.declared.Filled.the-variants.{Accepted, Refused}
 use Rattle.avps.specs.Fill.{Cleared}
-use Rattle.avps.specs.Answers.{countsAs, answerOf, runRecords, runCounts, runAnswer}
+use Rattle.avps.specs.Answers.{lastPlace, countsAs, answerOf, runAnswer}
 
 module _ (D : Dictionary) (limit room place : ℕ) (s : List ℕ) where
   abbrev run : Tree
   run = tree (avps D) s
 
-  pub not-tiled : tiles run ≡ false → answerOf (Refused NotTiled) ≡ runAnswer D limit room place s
+  pub too-long : lastPlace < place + length s → answerOf (Refused TooLong) ≡ runAnswer D limit room place s
   unfolding answerOf runAnswer
-  not-tiled e = rw e
+  too-long h = rw (lt-ltb lastPlace (place + length s) h)
 
-  module _ (tiled : tiles run ≡ true) where
-    pub too-deep : limit < deepest run → answerOf (Refused TooDeep) ≡ runAnswer D limit room place s
-    unfolding answerOf runAnswer
-    too-deep h = rw tiled (deeper limit room run (runRecords D place s) (runCounts D place s) h)
+  module _ (near : place + length s ≤ lastPlace) where
+    past-places : answer (limitRefusals limit ++ runRefusals D limit room place s) (runCounts D place s) ≡ runAnswer D limit room place s
+    unfolding runAnswer
+    past-places = rw (le-ltb lastPlace (place + length s) near)
 
-  module _ (records tried : ℕ) (k : Known limit run true records tried) where
-    counted : length (runRecords D place s) ≡ records
-    unfolding runRecords
-    counted = records-count D place 1 run ∙ sym (k .records-is)
+    -- past the place and the limit the answer is the run's own
+    pub past-limit : allowed limit ≡ true → answer (runRefusals D limit room place s) (runCounts D place s) ≡ runAnswer D limit room place s
+    past-limit ok = limit-good limit (runRefusals D limit room place s) (runCounts D place s) ok ∙ past-places
 
-    pub no-records : room < records → answerOf (Refused (NoRecords records)) ≡ runAnswer D limit room place s
-    unfolding answerOf runAnswer runRecords
-    no-records less =
-        rw (sym (k .tiles-is), k .records-is)
-        (more-records limit room run (runRecords D place s) (runCounts D place s) (k .shallow) (records-count D place 1 run) (omega (arith, k .records-is)))
+    -- a run is refused as it was when it was counted
+    pub count-refused : (why : Refusal) → counted.answerOf (count.Refused why) ≡ counted.countOf limit run
+        → answerOf (Refused why) ≡ runAnswer D limit room place s
+    unfolding answerOf counted.answerOf counted.countOf
+    count-refused why e =
+        let first = limitRefusals limit ++ (tileRefusals run ++ depthRefusals limit run) in
+        sym (answer-first first (roomRefusals room (runRecords D place s)) _ (runCounts D place s) _ _ (sym e)) ∙ past-places
 
-    pub accepts : (e : ℕ) → records ≤ room → e ≡ errors D run
-        → answerOf (Accepted (record { errors = e; records = records; tried = tried; length = length s })) ≡ runAnswer D limit room place s
-    unfolding answerOf countsAs runAnswer runCounts runRecords
-    accepts e room-left errors-are =
-        rw (errors-are, ← counted, k .tried-is, sym (k .tiles-is))
-        (fits limit room run (runRecords D place s) (runCounts D place s) (k .shallow) (records-count D place 1 run) (omega (arith, k .records-is)))
+    module _ (records tried : ℕ) (k : Fitting limit run records tried) where
+      past-tiles : answer (fitRefusals limit room run (runRecords D place s)) (runCounts D place s) ≡ runAnswer D limit room place s
+      past-tiles = rw (k .tiled) at (past-limit (k .limit-is))
+
+      records-are : length (runRecords D place s) ≡ recordCount run
+      unfolding runRecords
+      records-are = records-count D place 1 run
+
+      pub no-records : room < records → answerOf (Refused (NoRecords records)) ≡ runAnswer D limit room place s
+      unfolding answerOf
+      no-records less =
+          rw (k .records-is) (more-records limit room run (runRecords D place s) (runCounts D place s) (k .shallow) records-are (omega (arith, k .records-is)))
+          ∙ past-tiles
+
+      pub accepts : (e : ℕ) → records ≤ room → e ≡ errors D run
+          → answerOf (Accepted (record { errors = e; records = records; tried = tried; length = length s })) ≡ runAnswer D limit room place s
+      unfolding answerOf countsAs runCounts
+      accepts e room-left errors-are =
+          rw (errors-are, k .records-is ∙ sym records-are, k .tried-is)
+          (fits limit room run (runRecords D place s) (runCounts D place s) (k .shallow) records-are (omega (arith, k .records-is)))
+          ∙ past-tiles
 
 -- ---- the store afterwards
 

@@ -82,14 +82,14 @@ module _ {D : Dictionary} {code vendor : ℕ} {s : List ℕ} {r : Read} (shown :
         store-is = rw (g .entered-is) (sym (over-none store));
       }
 
-pub members-written : {D : Dictionary} {code vendor : ℕ} {s : List ℕ} {place depth k : ℕ} {r : Ran} {before after : List ℕ}
-    → Group D code vendor s → k ≡ grouped → Written D (tree (avps D) s) place (depth + 1) r before after
+pub members-written : {D : Dictionary} {code vendor : ℕ} {s : List ℕ} {place depth deeper k : ℕ} {r : Ran} {before after : List ℕ}
+    → Group D code vendor s → k ≡ grouped → deeper ≡ depth + 1 → Written D (tree (avps D) s) place deeper r before after
     → Members D code vendor s place depth (record { kind = k; number = 0; errors = r .errors; records = r .records }) before after
-members-written g ek w =
+members-written g ek one w =
     record {
       kind-is = ek ∙ ap (λ (x : rfc.Value). x .kind) (sym (g .value-is));
       number-is = ap (λ (x : rfc.Value). x .number) (sym (g .value-is));
       errors-are = w .errors-are ∙ ap (λ (x : rfc.Value). x .errors) (sym (g .value-is));
       count-is = rw (g .entered-is) (w .count-is);
-      store-is = rw (g .entered-is) (w .store-is);
+      store-is = rw (g .entered-is, ← one) (w .store-is);
     }

@@ -78,16 +78,16 @@ module _ {D : Dictionary} {t : Tree} {place q depth n e : ℕ} {before now : Lis
 pub records-length : (D : Dictionary) (place depth : ℕ) (t : Tree) → length (laid (records D place depth t)) ≡ recordCount t * recordSize
 records-length D place depth t = omega (arith, laid-length (records D place depth t), records-count D place depth t)
 
-module _ {D : Dictionary} {s : List ℕ} {place depth : ℕ} {before : List ℕ} (fits : Room (tree (avps D) s) place (length s) depth (length before))
+module _ {D : Dictionary} {s : List ℕ} {place left depth : ℕ} {before : List ℕ} (fits : Room (tree (avps D) s) place (length s) left (length before))
     {at n e : ℕ} {now : List ℕ} (f : Filling D (tree (avps D) s) (tree (avps D) (drop at s)) place (place + at) depth n e before now)
     {a : AVP} {own : List ℕ} (o : OwnBytes D s at a own) where
   -- there is room for its records in what is left of the store
   pub room-for-one : at + a .size ≤ length s
-      → Room (tree (avps D) own) (place + at) (length own) depth (length (take (length now - n * recordSize) (drop (n * recordSize) now)))
+      → Room (tree (avps D) own) (place + at) (length own) left (length (take (length now - n * recordSize) (drop (n * recordSize) now)))
   room-for-one inside =
       let j = o .joined-is in
       let left = ap length (rest now (n * recordSize) (omega arith)) ∙ length-drop (n * recordSize) now in
-      record { records-fit = omega arith; places-fit = omega arith; depths-fit = omega arith }
+      record { records-fit = omega arith; places-fit = omega arith; depths-fit = omega arith; levels-fit = omega arith }
 
   -- they are written there, and it came back
   pub one-filled : {w : Ran} {back : List ℕ}

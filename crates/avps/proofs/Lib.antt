@@ -5,5 +5,5 @@ mod OtherKinds
 mod Entering
 mod Clearing
 pub mod AnswerOf
-mod Answered
+pub mod Answered
 pub mod Told

@@ -1,7 +1,7 @@
 -- One AVP from its own bytes: its data and its padding are the parts that the code lends, so the record that is put before its
 -- members' is the definition's, and the two together are the records of the AVP.
 -- Assumes nothing.
-use Prim.Native.Nat.{ℕ, _+_, _-_, _%_, _^_, _≤_}
+use Prim.Native.Nat.{ℕ, _+_, _-_, _≤_, _<_}
 use mathlib.Core.Path.{_≡_, sym, ap, ap₂, _∙_}
 use mathlib.Core.Bool.{not}
 use mathlib.Core.List.{List, _∷_, _++_}
@@ -14,7 +14,6 @@ use borrow.Rule.Slice.PartMut.{putMid}
 use Rattle.octets.specs.Octets.{be, over}
 use Rattle.octets.specs.Run.{tree}
 use Rattle.octets.proofs.Lists.{rest, over-before, lent}
-use Rattle.octets.proofs.Numbers.{written-low}
 use Rattle.rfc6733.specs.Flags.{flag, join, nonZeroReserved, nonZeroPadding}
 use Rattle.rfc6733.specs.Avp as avp
 use Rattle.rfc6733.specs.Avp.{headSize, avpReserved, payload, padding, dataSize, Exact}
@@ -92,8 +91,8 @@ ownRecord a from place depth pads errors m =
       flags = a .flags;
       length = a .length;
       vendor = a .«vendor_id»;
-      place = (place + from) % 256 ^ 4;
-      depth = depth % 256 ^ 1;
+      place = place + from;
+      depth = depth;
       kind = m .kind;
       errors = errors;
       padding = a .size - a .length;
@@ -125,16 +124,20 @@ module _ (D : Dictionary) {s : List ℕ} {a : AVP} {from : ℕ} (o : Opened s a 
   made-here : Made D s (tree (avps D) s) (valueIn D (a .code) (a .«vendor_id») (lentData s a from)) (entered D (a .code) (a .«vendor_id») (lentData s a from))
   made-here = rw (exact-tree D s x, o .fields .code-is, o .fields .vendor-is, o .data-is) (made D s)
 
-  pub room-for-own : {place n depth l : ℕ} → Room (tree (avps D) s) place n depth l → recordSize ≤ l
+  pub room-for-own : {place n left l : ℕ} → Room (tree (avps D) s) place n left l → recordSize ≤ l
   room-for-own room = omega (arith, made-here)
 
-  pub room-for-members : {place depth : ℕ} (store : List ℕ) → Room (tree (avps D) s) place (length s) depth (length store)
-      → Room (entered D (a .code) (a .«vendor_id») (lentData s a from)) (place + from) (length (lentData s a from)) (depth + 1)
+  -- its header takes a level
+  pub level-for-own : {place n left l : ℕ} → Room (tree (avps D) s) place n left l → 0 < left
+  level-for-own room = omega (arith, made-here)
+
+  pub room-for-members : {place left : ℕ} (store : List ℕ) → Room (tree (avps D) s) place (length s) left (length store)
+      → Room (entered D (a .code) (a .«vendor_id») (lentData s a from)) (place + from) (length (lentData s a from)) (left - 1)
       (length (take (length store - recordSize) (drop recordSize store)))
   room-for-members store room =
       let m = made-here in
       let l = ap length (rest store recordSize (room-for-own room)) ∙ length-drop recordSize store in
-      record { records-fit = omega arith; places-fit = omega arith; depths-fit = omega arith }
+      record { records-fit = omega arith; places-fit = omega arith; depths-fit = omega arith; levels-fit = omega arith }
 
   own-errors-are : (p e : ℕ) → p ≡ be 3 (lentPadding s a) 0
       → e ≡ join (flag (not (eqb (avpReserved (a .flags)) 0)) nonZeroReserved) (flag (not (eqb p 0)) nonZeroPadding) → e ≡ ownErrors s
@@ -145,19 +148,18 @@ module _ (D : Dictionary) {s : List ℕ} {a : AVP} {from : ℕ} (o : Opened s a 
       → e ≡ join (ownErrors s) (v .errors) → recordBytes (recordAs (ownRecord a from place depth p e m)) ≡ recordBytes (recordOf place depth s v)
   unfolding recordBytes recordAs recordOf avp.pads
   own-record-is place depth p e m v ep ek en ee =
-      rw (written-low 4 (place + from), written-low 1 depth)
-      (rw (ep, ek, en, ee, o .pads-are, o .padding-is, o .from-is, o .fields .code-is, o .fields .flags-is, o .fields .length-is, o .fields .vendor-is))
+      rw (ep, ek, en, ee, o .pads-are, o .padding-is, o .from-is, o .fields .code-is, o .fields .flags-is, o .fields .length-is, o .fields .vendor-is)
 
   -- p is the padding as a number, oe the flags of the AVP's own header and padding, and e these with its value's
-  pub avp-written : {place depth : ℕ} {store back last : List ℕ} {m : Valued} {p oe e : ℕ}
-      → Room (tree (avps D) s) place (length s) depth (length store)
+  pub avp-written : {place left depth : ℕ} {store back last : List ℕ} {m : Valued} {p oe e : ℕ}
+      → Room (tree (avps D) s) place (length s) left (length store)
       → Members D (a .code) (a .«vendor_id») (lentData s a from) (place + from) depth m (take (length store - recordSize) (drop recordSize store)) back
       → p ≡ be 3 (lentPadding s a) 0
       → oe ≡ join (flag (not (eqb (avpReserved (a .flags)) 0)) nonZeroReserved) (flag (not (eqb p 0)) nonZeroPadding)
       → e ≡ join oe (m .errors)
       → last ≡ put (recordAs (ownRecord a from place depth p e m)) (putMid recordSize (length store - recordSize) store back)
       → Written D (tree (avps D) s) place depth (record { records = 1 + m .records; errors = e }) store last
-  avp-written {place} {depth} {store} {back} {m} {p} {oe} {e} room v ep eo ee el =
+  avp-written {place = place} {depth = depth} {store} {back} {m} {p} {oe} {e} room v ep eo ee el =
       let t = made-here in
       let w = valueIn D (a .code) (a .«vendor_id») (lentData s a from) in
       let inside = entered D (a .code) (a .«vendor_id») (lentData s a from) in

@@ -4,9 +4,9 @@ use Prim.Native.Nat.{ℕ}
 use mathlib.Core.Path.{_≡_}
 use mathlib.Core.List.{List}
 use Rattle.rfc6733.specs.Dictionary.{Dictionary}
-use Rattle.rfc6733.specs.Decoder.{stored}
+use Rattle.rfc6733.specs.Decoder.{runRecords, stored}
 use Rattle.avps.specs.declared.Filled.{Filled}
-use Rattle.avps.specs.Answers.{answerOf, runRecords, runAnswer}
+use Rattle.avps.specs.Answers.{answerOf, runAnswer}
 
 pub record Told (D : Dictionary) (limit room place : ℕ) (s before after : List ℕ) (r : Filled) : Type 0 where
   pub answer-is : answerOf r ≡ runAnswer D limit room place s

@@ -1,22 +1,29 @@
 -- What the readers of a run, an AVP and a value ask and leave.
 -- Assumes nothing: these are definitions.
-use Prim.Native.Nat.{ℕ, _+_, _-_, _*_, _≤_, _<_, _^_}
+use Prim.Native.Nat.{ℕ, _+_, _-_, _*_, _≤_}
 use mathlib.Core.Path.{_≡_}
 use mathlib.Core.List.{List, _++_}
 use lib.ListN.{length, replicate}
 use Rattle.octets.specs.Octets.{over}
 use Rattle.octets.specs.Run.{Tree, deepest}
+use Rattle.rfc6733.specs.Avp.{mostDepth}
 use Rattle.rfc6733.specs.Dictionary.{Dictionary}
 use Rattle.rfc6733.specs.Record.{recordSize, laid, errors, records, recordCount}
 use Rattle.rfc6733.specs.Entered.{valueIn, entered}
+use Rattle.avps.specs.Answers.{lastPlace}
 use Rattle.avps.specs.declared.fill.Ran.{Ran}
 use Rattle.avps.specs.declared.fill.Valued.{Valued}
 
--- the records of t fit a store of l bytes, and neither the places of n bytes from a place on nor its depths pass a usize
-pub record Room (t : Tree) (place n depth l : ℕ) : Type 0 where
+-- the depth of a run that has so many levels left, its own among them
+abbrev pub depthAt : ℕ → ℕ
+depthAt left = mostDepth + 1 - left
+
+-- the records of t fit a store of l bytes, the places of n bytes from a place on the four bytes of a record, and its depths the levels left
+pub record Room (t : Tree) (place n left l : ℕ) : Type 0 where
   pub records-fit : recordCount t * recordSize ≤ l
-  pub places-fit : place + n < 2 ^ 64
-  pub depths-fit : depth + deepest t < 2 ^ 64
+  pub places-fit : place + n ≤ lastPlace
+  pub depths-fit : deepest t ≤ left
+  pub levels-fit : left ≤ mostDepth
 
 -- the records of t stand at the front of the store; their number and their flags are answered
 pub record Written (D : Dictionary) (t : Tree) (place depth : ℕ) (r : Ran) (before after : List ℕ) : Type 0 where

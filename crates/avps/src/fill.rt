@@ -8,7 +8,7 @@ use record::Record;
 use value::Value;
 ghost use mathlib.Core.Path.{_≡_};
 ghost use mathlib.Core.Bool.{true, not};
-ghost use Prim.Native.Nat.{_+_, _≤_};
+ghost use Prim.Native.Nat.{_-_, _≤_, _<_};
 ghost use lib.ListN.{length};
 ghost use lib.Dec.{eqb};
 ghost use Rattle.octets.specs.Octets.{be};
@@ -19,12 +19,7 @@ ghost use Rattle.rfc6733.specs.Record.{avps};
 ghost use Rattle.rfc6733.specs.Entered.{entered};
 ghost use Rattle.front.specs.Front.{avpOf};
 ghost use Rattle.attribute.specs.Attributes.{dictionary, kindTable};
-ghost use Rattle.avps.specs.Fill.{Room, Written, Members};
-
-// A record has four bytes for a place and one for a depth: the lowest of the number.
-const PLACES: usize = 0x1_0000_0000;
-
-const DEPTHS: usize = 0x100;
+ghost use Rattle.avps.specs.Fill.{depthAt, Room, Written, Members};
 
 // How many records, and their error flags joined.
 pub(super) struct Ran {
@@ -63,19 +58,19 @@ fn own_errors(a: AVP, pads: u32) -> u8
     )
 }
 
-// The records of the run `s`, which stands at `place` of the input and has the depth `depth`.
+// The records of the run `s`, which stands at `place` of the input. Of the levels `left` remain, its own among them.
 pub(super) fn read_run(
     reading: Reading,
     kinds: &[u8],
     s: &[u8],
     place: usize,
-    depth: usize,
+    left: usize,
     store: &mut [u8],
 ) -> Ran
     requires { ⌜ tiles (tree (avps (dictionary reading)) (now s)) ≡ true ⌝ }
-    requires { ⌜ Room (tree (avps (dictionary reading)) (now s)) place (length (now s)) depth (length (now store)) ⌝ }
+    requires { ⌜ Room (tree (avps (dictionary reading)) (now s)) place (length (now s)) left (length (now store)) ⌝ }
     requires { ⌜ now kinds ≡ kindTable reading ⌝ }
-    ensures { λ r. ⌜ Written (dictionary reading) (tree (avps (dictionary reading)) (now (s .entry))) place depth r (now (store .entry)) (now (store .exit)) ⌝ }
+    ensures { λ r. ⌜ Written (dictionary reading) (tree (avps (dictionary reading)) (now (s .entry))) place (depthAt left) r (now (store .entry)) (now (store .exit)) ⌝ }
 {
     let mut at: usize = 0;
     let mut n: usize = 0;
@@ -91,7 +86,7 @@ pub(super) fn read_run(
             &s[at..next],
             a,
             place + at,
-            depth,
+            left,
             &mut store[n * Record::SIZE..],
         );
         n += one.records;
@@ -108,13 +103,13 @@ fn read_avp(
     s: &[u8],
     a: AVP,
     place: usize,
-    depth: usize,
+    left: usize,
     store: &mut [u8],
 ) -> Ran
     requires { ⌜ (a ≡ avpOf (now s)) × Exact (now s) ⌝ }
-    requires { ⌜ Room (tree (avps (dictionary reading)) (now s)) place (length (now s)) depth (length (now store)) ⌝ }
+    requires { ⌜ Room (tree (avps (dictionary reading)) (now s)) place (length (now s)) left (length (now store)) ⌝ }
     requires { ⌜ now kinds ≡ kindTable reading ⌝ }
-    ensures { λ r. ⌜ Written (dictionary reading) (tree (avps (dictionary reading)) (now (s .entry))) place depth r (now (store .entry)) (now (store .exit)) ⌝ }
+    ensures { λ r. ⌜ Written (dictionary reading) (tree (avps (dictionary reading)) (now (s .entry))) place (depthAt left) r (now (store .entry)) (now (store .exit)) ⌝ }
 {
     let from = a.header_size();
     let to = a.length;
@@ -125,7 +120,7 @@ fn read_avp(
         a.vendor_id,
         &s[from..to],
         place + from,
-        depth,
+        left,
         &mut store[Record::SIZE..],
     );
     let pads = pads(&s[to..]);
@@ -135,8 +130,8 @@ fn read_avp(
         flags: a.flags,
         length: to as u32,
         vendor: a.vendor_id,
-        place: ((place + from) % PLACES) as u32,
-        depth: (depth % DEPTHS) as u8,
+        place: (place + from) as u32,
+        depth: (AVP::MOST_DEPTH + 1 - left) as u8,
         kind: value.kind,
         errors,
         padding: (a.size - to) as u8,
@@ -157,18 +152,19 @@ fn read_value(
     vendor: u32,
     data: &[u8],
     place: usize,
-    depth: usize,
+    left: usize,
     store: &mut [u8],
 ) -> Valued
-    requires { ⌜ Room (entered (dictionary reading) code vendor (now «data»)) place (length (now «data»)) (depth + 1) (length (now store)) ⌝ }
+    requires { ⌜ 0 < left ⌝ }
+    requires { ⌜ Room (entered (dictionary reading) code vendor (now «data»)) place (length (now «data»)) (left - 1) (length (now store)) ⌝ }
     requires { ⌜ now kinds ≡ kindTable reading ⌝ }
-    ensures { λ r. ⌜ Members (dictionary reading) code vendor (now («data» .entry)) place depth r (now (store .entry)) (now (store .exit)) ⌝ }
+    ensures { λ r. ⌜ Members (dictionary reading) code vendor (now («data» .entry)) place (depthAt left) r (now (store .entry)) (now (store .exit)) ⌝ }
 {
     let read = Value::new(reading, attribute::kind(reading, kinds, code, vendor), data);
     let value = read.value;
     let kind = value.kind();
     if kind == GROUPED {
-        let members = read_run(reading, kinds, data, place, depth + 1, store);
+        let members = read_run(reading, kinds, data, place, left - 1, store);
         return Valued {
             kind,
             number: 0,

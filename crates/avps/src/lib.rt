@@ -3,6 +3,7 @@
 mod fill;
 
 use attribute::Reading;
+use avp::AVP;
 use count::Counted;
 use record::Record;
 use refusal::Refusal;
@@ -11,10 +12,11 @@ ghost use mathlib.Core.Bool.{true};
 ghost use lib.ListN.{length, replicate};
 ghost use Rattle.octets.specs.Run.{tree, tiles};
 ghost use Rattle.rfc6733.specs.Record.{avps};
-ghost use Rattle.rfc6733.specs.Decoder.{capacity, stored};
+ghost use Rattle.rfc6733.specs.Avp.{mostDepth};
+ghost use Rattle.rfc6733.specs.Decoder.{capacity, runRecords, stored};
 ghost use Rattle.attribute.specs.Attributes.{dictionary};
 ghost use Rattle.avps.specs.Fill.{Room, Cleared};
-ghost use Rattle.avps.specs.Answers.{answerOf, runAnswer, runRecords};
+ghost use Rattle.avps.specs.Answers.{answerOf, runAnswer};
 
 /// An accepted run: its error flags, number of records, headers tried and length.
 pub struct Counts {
@@ -30,6 +32,9 @@ pub enum Filled {
     Refused(Refusal),
 }
 
+// A record has four bytes for a place.
+const LAST_PLACE: u32 = 0xffff_ffff;
+
 // Sets every byte to zero.
 fn clear(store: &mut [u8])
     ensures { λ _. ⌜ now (store .exit) ≡ replicate (length (now (store .entry))) 0 ⌝ }
@@ -44,11 +49,11 @@ fn clear(store: &mut [u8])
 // Fills the store with the records of the run `s`, which stands at `place`, and with zero after them. Answers their error flags.
 fn fill_store(reading: Reading, s: &[u8], place: usize, store: &mut [u8]) -> u8
     requires { ⌜ tiles (tree (avps (dictionary reading)) (now s)) ≡ true ⌝ }
-    requires { ⌜ Room (tree (avps (dictionary reading)) (now s)) place (length (now s)) 1 (length (now store)) ⌝ }
+    requires { ⌜ Room (tree (avps (dictionary reading)) (now s)) place (length (now s)) mostDepth (length (now store)) ⌝ }
     ensures { λ r. ⌜ Cleared (dictionary reading) (tree (avps (dictionary reading)) (now (s .entry))) place r (now (store .entry)) (now (store .exit)) ⌝ }
 {
     let kinds = attribute::kind_table(reading);
-    let ran = fill::read_run(reading, &kinds, s, place, 1, store);
+    let ran = fill::read_run(reading, &kinds, s, place, AVP::MOST_DEPTH, store);
     let n = ran.records;
     clear(&mut store[n * Record::SIZE..]);
     ran.errors
@@ -59,29 +64,22 @@ pub fn parse_avps(reading: Reading, limit: usize, s: &[u8], place: u32, store: &
     ensures answer { λ r. ⌜ answerOf r ≡ runAnswer (dictionary reading) limit (capacity (length (now (store .entry)))) place (now (s .entry)) ⌝ }
     ensures store { λ r. ⌜ now (store .exit) ≡ stored (answerOf r) (runRecords (dictionary reading) place (now (s .entry))) (now (store .entry)) ⌝ }
 {
-    let Counted::Counts {
-        tiles,
-        records,
-        tried,
-    } = count::count_run(reading, s, limit)
-    else {
-        // NotTiled comes first
-        if !front::tiles(s) {
-            return Filled::Refused(Refusal::NotTiled);
+    if ((LAST_PLACE - place) as usize) < s.len() {
+        return Filled::Refused(Refusal::TooLong);
+    }
+    match count::count_run(reading, s, limit) {
+        Counted::Fits { records, tried } => {
+            if store.len() / Record::SIZE < records {
+                return Filled::Refused(Refusal::NoRecords(records));
+            }
+            let errors = fill_store(reading, s, place as usize, store);
+            Filled::Accepted(Counts {
+                errors,
+                records,
+                tried,
+                length: s.len(),
+            })
         }
-        return Filled::Refused(Refusal::TooDeep);
-    };
-    if !tiles {
-        return Filled::Refused(Refusal::NotTiled);
+        Counted::Refused(why) => Filled::Refused(why),
     }
-    if store.len() / Record::SIZE < records {
-        return Filled::Refused(Refusal::NoRecords(records));
-    }
-    let errors = fill_store(reading, s, place as usize, store);
-    Filled::Accepted(Counts {
-        errors,
-        records,
-        tried,
-        length: s.len(),
-    })
 }

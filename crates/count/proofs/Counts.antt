@@ -1,129 +1,57 @@
--- Laws of `countOf`: the answer from the facts and the facts from an answer, what a loop over a run has counted so far, and the
--- count of one AVP from that of its payload. The counts fit, since no more headers are tried than there are bytes.
+-- Laws of `countOf`: the answer from the facts, in the order of the refusals, and the facts from an acceptance.
 -- Assumes nothing.
-use Prim.Native.Nat.{ℕ, _+_, _-_, _≤_, _<_, max}
-use mathlib.Core.Path.{_≡_, refl, sym, ap, _∙_}
-use mathlib.Core.Bool.{Bool, true, false, cond}
-use mathlib.Core.List.{List}
-use native.Mathlib.Omega.{arith}
-use lib.ListN.{length}
+use Prim.Native.Nat.{ℕ, _≤_, _<_}
+use mathlib.Core.Path.{_≡_, sym, ap}
+use mathlib.Core.Bool.{true, false, not}
+use mathlib.Core.List.{_++_}
 use lib.Dec.{ltb}
-use borrow.Author.Tests.{ltb-true, ltb-false, lt-ltb, le-ltb, eq-eqb, ne-eqb}
-use Rattle.octets.specs.Run.{Tree, done, group, tree, tiles, tried, deepest}
-use Rattle.rfc6733.specs.Avp.{payload, Exact}
-use Rattle.rfc6733.specs.Value.{grouped}
-use Rattle.rfc6733.specs.Dictionary.{Dictionary}
-use Rattle.rfc6733.specs.Record.{kindOf, avps, recordCount}
-use Rattle.rfc6733.proofs.Alone.{Joined, exact-tree, alone-plain, alone-group}
-use Rattle.rfc6733.proofs.RunRecords.{count-tried}
-use Rattle.rfc6733.proofs.Tried.{tried-length}
-use Rattle.count.specs.declared.Counted.the-variants.{TooDeep, Counts}
-use Rattle.count.specs.Counts.{countOf}
+use borrow.Author.Tests.{lt-ltb, le-ltb}
+use Rattle.octets.specs.Run.{Tree, tiles, tried, deepest}
+use Rattle.rfc6733.specs.Record.{recordCount}
+use Rattle.rfc6733.specs.Decoder.{allowed, limitRefusals, tileRefusals, depthRefusals}
+use Rattle.rfc6733.proofs.Answers.{and-true, kept-not, kept-lt, passed}
+use Rattle.refusal.specs.declared.Refusal.the-variants.{NotTiled, TooDeep, BadDepth}
+use Rattle.count.specs.declared.Counted.the-variants.{Fits, Refused}
+use Rattle.count.specs.Counts.{Sums, sums, answerOf, countOf}
+use Rattle.count.proofs.Levels.{Known}
 
--- ---- facts and answers
+module _ (limit : ℕ) (t : Tree) where
+  pub not-allowed : allowed limit ≡ false → answerOf (Refused BadDepth) ≡ countOf limit t
+  unfolding answerOf countOf
+  not-allowed e = rw e
 
-pub record Known (left : ℕ) (t : Tree) (b : Bool) (n k : ℕ) : Type 0 where
-  pub shallow : deepest t ≤ left
-  pub tiles-is : b ≡ tiles t
+  module _ (limit-is : allowed limit ≡ true) where
+    pub not-tiled : tiles t ≡ false → answerOf (Refused NotTiled) ≡ countOf limit t
+    unfolding answerOf countOf
+    not-tiled e = rw (limit-is, e)
+
+    pub too-deep : tiles t ≡ true → limit < deepest t → answerOf (Refused TooDeep) ≡ countOf limit t
+    unfolding answerOf countOf
+    too-deep e h = rw (limit-is, e, lt-ltb limit (deepest t) h)
+
+    pub fits : {n k : ℕ} → Known limit t true n k → answerOf (Fits n k) ≡ countOf limit t
+    unfolding answerOf countOf
+    fits w = rw (limit-is, sym (w .tiles-is), le-ltb _ _ (w .shallow), w .records-is, w .tried-is)
+
+-- what an acceptance says
+pub record Fitting (limit : ℕ) (t : Tree) (n k : ℕ) : Type 0 where
+  pub limit-is : allowed limit ≡ true
+  pub tiled : tiles t ≡ true
+  pub shallow : deepest t ≤ limit
   pub records-is : n ≡ recordCount t
   pub tried-is : k ≡ tried t
 
-pub deep : (left : ℕ) (t : Tree) → left < deepest t → TooDeep ≡ countOf left t
-unfolding countOf
-deep left t h = rw (lt-ltb left (deepest t) h)
-
-pub counts : {left : ℕ} {t : Tree} {b : Bool} {n k : ℕ} → Known left t b n k → Counts b n k ≡ countOf left t
-unfolding countOf
-counts w = rw (le-ltb _ _ (w .shallow), w .tiles-is, w .records-is, w .tried-is)
-
-pub was-deep : (left : ℕ) (t : Tree) → TooDeep ≡ countOf left t → left < deepest t
-unfolding countOf
-was-deep left t e = by (ltb left (deepest t)) refl e
-  where
-    by : (q : Bool) → ltb left (deepest t) ≡ q → TooDeep ≡ cond q TooDeep (Counts (tiles t) (recordCount t) (tried t)) → left < deepest t
-    by true f e = ltb-true _ _ f
-    by false f e = let z : _≡_ {A = ℕ} 0 1 = cc in absurd (omega arith)
-
-pub was-counts : (left : ℕ) (t : Tree) (b : Bool) (n k : ℕ) → Counts b n k ≡ countOf left t → Known left t b n k
-unfolding countOf
-was-counts left t b n k e = by (ltb left (deepest t)) refl e
-  where
-    by : (q : Bool) → ltb left (deepest t) ≡ q → Counts b n k ≡ cond q TooDeep (Counts (tiles t) (recordCount t) (tried t)) → Known left t b n k
-    by true f e = let z : _≡_ {A = ℕ} 0 1 = cc in absurd (omega arith)
-    by false f e = record { shallow = ltb-false _ _ f; tiles-is = cc; records-is = cc; tried-is = cc }
-
--- both counts fit wherever the length does
-pub within : (D : Dictionary) (s : List ℕ) → (recordCount (tree (avps D) s) ≤ length s) × (tried (tree (avps D) s) ≤ length s)
-within D s = let c = count-tried (tree (avps D) s) in let l = tried-length D s in (omega arith, l)
-
--- ---- a run, AVP by AVP
-
--- the tree t is what was passed, with r after it: n records and k headers tried were passed, none too deep
-pub record Passed (left : ℕ) (t r : Tree) (n k : ℕ) : Type 0 where
-  pub seen : ℕ
-  pub seen-fits : seen ≤ left
-  pub tiles-is : tiles t ≡ tiles r
-  pub records-is : recordCount t ≡ n + recordCount r
-  pub tried-is : tried t ≡ k + tried r
-  pub deepest-is : deepest t ≡ max seen (deepest r)
-
-pub none-passed : (left : ℕ) (t : Tree) → Passed left t t 0 0
-none-passed left t =
+pub was-fitting : (limit : ℕ) (t : Tree) (n k : ℕ) → answerOf (Fits n k) ≡ countOf limit t → Fitting limit t n k
+unfolding answerOf countOf
+was-fitting limit t n k e =
+    let p = passed (limitRefusals limit ++ (tileRefusals t ++ depthRefusals limit t)) (sums t) _ (sym e) in
+    let limits = and-true (not (not (allowed limit))) _ (p .0) in
+    let tiled = and-true (not (not (tiles t))) _ (limits .1) in
+    let shallow = and-true (not (ltb limit (deepest t))) _ (tiled .1) in
     record {
-      seen = 0;
-      seen-fits = omega arith;
-      tiles-is = refl;
-      records-is = omega arith;
-      tried-is = omega arith;
-      deepest-is = omega arith;
+      limit-is = kept-not _ (limits .0);
+      tiled = kept-not _ (tiled .0);
+      shallow = kept-lt limit (deepest t) (shallow .0);
+      records-is = sym (ap (λ (s : Sums). s .records) (p .1));
+      tried-is = sym (ap (λ (s : Sums). s .tried) (p .1));
     }
-
-module _ {left : ℕ} {t r : Tree} {n k : ℕ} (p : Passed left t r n k) where
-  -- one AVP more, a, where r is it with q after it
-  pub one-passed : {D : Dictionary} {size : ℕ} {a q : Tree} {b : Bool} {m j : ℕ} → Joined D size r a q → Known left a b m j
-      → Passed left t q (n + m) (k + j)
-  one-passed {a = a} jn kn =
-      record {
-        seen = max (p .seen) (deepest a);
-        seen-fits = omega arith;
-        tiles-is = p .tiles-is ∙ jn .tiles-is;
-        records-is = omega arith;
-        tried-is = omega arith;
-        deepest-is = omega arith;
-      }
-
-  -- a header is tried too deep in what is left
-  pub then-deep : left < deepest r → TooDeep ≡ countOf left t
-  then-deep h = deep left t (omega arith)
-
-  -- what is left is x, nothing or a broken header
-  pub then-ends : (x : Tree) {m j : ℕ} → r ≡ x → deepest x ≤ left → m ≡ n + recordCount x → j ≡ k + tried x
-      → Counts (tiles x) m j ≡ countOf left t
-  then-ends x e d records-are tried-are =
-      let c = ap recordCount e in
-      let h = ap tried e in
-      let l = ap deepest e in
-      counts (record { shallow = omega arith; tiles-is = sym (p .tiles-is ∙ ap tiles e); records-is = omega arith; tried-is = omega arith })
-
--- ---- one AVP
-
-module _ (D : Dictionary) (a : List ℕ) (e : Exact a) (left : ℕ) (some : 0 < left) where
-  pub one-plain : (kindOf D a ≡ grouped → ⊥) → Counts true 1 1 ≡ countOf left (tree (avps D) a)
-  one-plain p =
-      rw (exact-tree D a e, alone-plain D a (ne-eqb (kindOf D a) grouped p))
-      (counts (record { shallow = omega arith; tiles-is = refl; records-is = refl; tried-is = refl }))
-
-  module _ (g : kindOf D a ≡ grouped) where
-    pub one-deep : left - 1 < deepest (tree (avps D) (payload a)) → TooDeep ≡ countOf left (tree (avps D) a)
-    one-deep h =
-        rw (exact-tree D a e, alone-group D a (eq-eqb (kindOf D a) grouped g))
-        (deep left (group a (tree (avps D) (payload a)) done) (omega arith))
-
-    -- the records of its members are counted where it tiles
-    pub one-group : {b : Bool} {n k : ℕ} (m : ℕ) → Known (left - 1) (tree (avps D) (payload a)) b n k → m ≡ cond b n 0
-        → Counts true (1 + m) (1 + k) ≡ countOf left (tree (avps D) a)
-    one-group {b} {n} {k} m w h =
-        let i = tree (avps D) (payload a) in
-        let z : m ≡ cond (tiles i) (recordCount i) 0 = h ∙ rw (← w .tiles-is, ← w .records-is) in
-        rw (exact-tree D a e, alone-group D a (eq-eqb (kindOf D a) grouped g))
-        (counts (record { shallow = omega arith; tiles-is = refl; records-is = omega arith; tried-is = omega arith }))

@@ -1,2 +1,4 @@
+pub mod Levels
 pub mod Counts
-pub mod Lent
+mod Lent
+pub mod AnswerOf

@@ -1,12 +1,37 @@
--- What counting a run answers, with so many levels left.
+-- What counting a run answers: with so many levels left, and by a depth limit.
 -- Assumes nothing: these are definitions.
 use Prim.Native.Nat.{ℕ}
 use mathlib.Core.Bool.{cond}
+use mathlib.Core.List.{_++_}
 use lib.Dec.{ltb}
 use Rattle.octets.specs.Run.{Tree, tiles, tried, deepest}
+use Rattle.rfc6733.specs.Answer.{Answer, accepted, answer}
 use Rattle.rfc6733.specs.Record.{recordCount}
+use Rattle.rfc6733.specs.Decoder.{limitRefusals, tileRefusals, depthRefusals}
+use Rattle.refusal.specs.Refusals.{refusedAs}
+use Rattle.count.specs.declared.Level.{Level}
+use Rattle.count.specs.declared.Level.the-variants.{TooDeep, Counts}
 use Rattle.count.specs.declared.Counted.{Counted}
-use Rattle.count.specs.declared.Counted.the-variants.{TooDeep, Counts}
+use Rattle.count.specs.declared.Counted.the-variants.{Fits, Refused}
 
-unfoldable pub countOf : ℕ → Tree → Counted
-countOf left t = cond (ltb left (deepest t)) TooDeep (Counts (tiles t) (recordCount t) (tried t))
+-- ---- the levels that are left
+
+unfoldable pub levelOf : ℕ → Tree → Level
+levelOf left t = cond (ltb left (deepest t)) TooDeep (Counts (tiles t) (recordCount t) (tried t))
+
+-- ---- a run by its depth limit
+
+pub record Sums : Type 0 where
+  pub records : ℕ
+  pub tried : ℕ
+
+abbrev pub sums : Tree → Sums
+sums t = record { records = recordCount t; tried = tried t }
+
+unfoldable pub answerOf : Counted → Answer Sums
+answerOf (Fits n k) = accepted (record { records = n; tried = k })
+answerOf (Refused r) = refusedAs r
+
+-- the limit's refusal, and then those that a run has of its headers alone
+unfoldable pub countOf : ℕ → Tree → Answer Sums
+countOf limit t = answer (limitRefusals limit ++ (tileRefusals t ++ depthRefusals limit t)) (sums t)

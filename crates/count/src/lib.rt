@@ -1,19 +1,27 @@
 // Counting a run before anything is written: does it tile, how many records has it, how many headers are tried?
-// This crate looks at headers and never at values, and writes nothing.
+// This crate looks at headers and never at values, and writes nothing. The depth limit bounds how deep it calls itself.
 use attribute::Reading;
 use avp::AVP;
 use front::Next;
+use refusal::Refusal;
 ghost use mathlib.Core.Path.{_≡_};
 ghost use Prim.Native.Nat.{_<_};
 ghost use Rattle.octets.specs.Run.{tree};
 ghost use Rattle.rfc6733.specs.Record.{avps};
 ghost use Rattle.rfc6733.specs.Avp.{Exact};
+ghost use Rattle.rfc6733.specs.Decoder.{allowed};
 ghost use Rattle.front.specs.Front.{avpOf};
 ghost use Rattle.attribute.specs.Attributes.{dictionary};
-ghost use Rattle.count.specs.Counts.{countOf};
+ghost use Rattle.count.specs.Counts.{levelOf, answerOf, countOf};
 
-/// What a run holds, or that a header is tried deeper than allowed.
+/// How many records a run has and how many headers are tried, or why it is refused.
 pub enum Counted {
+    Fits { records: usize, tried: usize },
+    Refused(Refusal),
+}
+
+// What the levels that are left hold of a run, or that a header is tried deeper.
+enum Level {
     TooDeep,
     Counts {
         tiles: bool,
@@ -22,38 +30,73 @@ pub enum Counted {
     },
 }
 
-/// Counts the run `s`. Headers may be tried on so many levels as are left, its own among them.
-pub fn count_run(reading: Reading, s: &[u8], left: usize) -> Counted
-    ensures { λ r. ⌜ r ≡ countOf left (tree (avps (dictionary reading)) (now (s .entry))) ⌝ }
+/// Is the depth limit 1..64?
+pub fn allowed(limit: usize) -> bool
+    ensures { λ r. ⌜ r ≡ allowed limit ⌝ }
+{
+    if limit < 1 {
+        return false;
+    }
+    limit <= AVP::MOST_DEPTH
+}
+
+/// Counts the run `s`. Headers may be tried on `limit` levels, its own among them.
+pub fn count_run(reading: Reading, s: &[u8], limit: usize) -> Counted
+    ensures { λ r. ⌜ answerOf r ≡ countOf limit (tree (avps (dictionary reading)) (now (s .entry))) ⌝ }
+{
+    if !allowed(limit) {
+        return Counted::Refused(Refusal::BadDepth);
+    }
+    let Level::Counts {
+        tiles,
+        records,
+        tried,
+    } = count_level(reading, s, limit)
+    else {
+        // NotTiled comes first
+        if !front::tiles(s) {
+            return Counted::Refused(Refusal::NotTiled);
+        }
+        return Counted::Refused(Refusal::TooDeep);
+    };
+    if !tiles {
+        return Counted::Refused(Refusal::NotTiled);
+    }
+    Counted::Fits { records, tried }
+}
+
+// Counts the run `s`. Headers may be tried on so many levels as are left, its own among them.
+fn count_level(reading: Reading, s: &[u8], left: usize) -> Level
+    ensures { λ r. ⌜ r ≡ levelOf left (tree (avps (dictionary reading)) (now (s .entry))) ⌝ }
 {
     let mut records: usize = 0;
     let mut tried: usize = 0;
     let mut at: usize = 0;
     while at < s.len() {
         if left == 0 {
-            return Counted::TooDeep;
+            return Level::TooDeep;
         }
         let Next::Whole(a) = front::complete(&s[at..]) else {
-            return Counted::Counts {
+            return Level::Counts {
                 tiles: false,
                 records,
                 tried: tried + 1,
             };
         };
         let next = at + a.size;
-        let Counted::Counts {
+        let Level::Counts {
             tiles: _,
             records: r,
             tried: t,
         } = count_avp(reading, &s[at..next], a, left)
         else {
-            return Counted::TooDeep;
+            return Level::TooDeep;
         };
         records += r;
         tried += t;
         at = next;
     }
-    Counted::Counts {
+    Level::Counts {
         tiles: true,
         records,
         tried,
@@ -61,12 +104,12 @@ pub fn count_run(reading: Reading, s: &[u8], left: usize) -> Counted
 }
 
 // Counts the AVP `a`, whose own bytes are `s`, with what is inside it.
-fn count_avp(reading: Reading, s: &[u8], a: AVP, left: usize) -> Counted
+fn count_avp(reading: Reading, s: &[u8], a: AVP, left: usize) -> Level
     requires { ⌜ (a ≡ avpOf (now s)) × Exact (now s) × (0 < left) ⌝ }
-    ensures { λ r. ⌜ r ≡ countOf left (tree (avps (dictionary reading)) (now (s .entry))) ⌝ }
+    ensures { λ r. ⌜ r ≡ levelOf left (tree (avps (dictionary reading)) (now (s .entry))) ⌝ }
 {
     if !attribute::is_grouped(reading, a.code, a.vendor_id) {
-        return Counted::Counts {
+        return Level::Counts {
             tiles: true,
             records: 1,
             tried: 1,
@@ -74,17 +117,17 @@ fn count_avp(reading: Reading, s: &[u8], a: AVP, left: usize) -> Counted
     }
     let from = a.header_size();
     let to = a.length;
-    let Counted::Counts {
+    let Level::Counts {
         tiles,
         records,
         tried,
-    } = count_run(reading, &s[from..to], left - 1)
+    } = count_level(reading, &s[from..to], left - 1)
     else {
-        return Counted::TooDeep;
+        return Level::TooDeep;
     };
     // A group that does not tile has a record, and none for its members.
     let members = if tiles { records } else { 0 };
-    Counted::Counts {
+    Level::Counts {
         tiles: true,
         records: 1 + members,
         tried: 1 + tried,

@@ -1,18 +1,19 @@
 -- What is known of a message once its header was accepted: its body is the run that the definition reads, so the message is refused as
 -- the body is, and else accepted with the body's counts.
 -- Assumes nothing.
-use Prim.Native.Nat.{ℕ, _-_}
+use Prim.Native.Nat.{ℕ, _-_, _≤_}
 use mathlib.Core.Path.{_≡_, sym, ap, _∙_}
 use mathlib.Core.Bool.{true}
 use mathlib.Core.List.{List}
-use lib.ListN.{take, drop}
+use native.Mathlib.Omega.{arith}
+use lib.ListN.{take, drop, length-take}
 use Rattle.rfc6733.specs.Answer.{passes, accepted, refused, answer}
 use Rattle.rfc6733.specs.Flags.{join}
 use Rattle.rfc6733.specs.Header as rfc
 use Rattle.rfc6733.specs.Header.{messageLength, headerOf, headerErrors, headerRefusals}
 use Rattle.rfc6733.specs.Dictionary.{Dictionary}
 use Rattle.rfc6733.specs.Decoder as definition
-use Rattle.rfc6733.specs.Decoder.{headerAlone, messageBody, messageRun, messageRecords, messageOf, decoded, stored}
+use Rattle.rfc6733.specs.Decoder.{allowed, headerAlone, runCounts, messageBody, messageRecords, messageOf, decoded, stored}
 use Rattle.rfc6733.proofs.Answers as answers
 use Rattle.rfc6733.proofs.Answers.{passed, answer-alike}
 use Rattle.rfc6733.proofs.Accepted as accepted-message
@@ -25,11 +26,12 @@ use Rattle.avps.specs.declared.Counts.{Counts}
 use Rattle.avps.specs.declared.Filled.{Filled}
 use Rattle.avps.specs.declared.Filled.the-variants as run
 use Rattle.avps.specs.Answers as avps
-use Rattle.avps.specs.Answers.{countsAs, runRecords, runCounts, runAnswer}
+use Rattle.avps.specs.Answers.{lastPlace, countsAs, runAnswer}
+use Rattle.avps.proofs.Answered.{past-limit}
 use Rattle.avps.proofs.Told.{Told}
 use Rattle.diameter.specs.declared.Message.{Message}
 use Rattle.diameter.specs.declared.Decoded.the-variants.{Accepted}
-use Rattle.diameter.specs.Answers.{Limited, Headed, messageAs, answerOf}
+use Rattle.diameter.specs.Answers.{Headed, messageAs, answerOf}
 
 -- the header is the definition's
 pub record Body (h : Header) (own : ℕ) (s : List ℕ) : Type 0 where
@@ -58,17 +60,19 @@ body h own s e =
 
 -- ---- the answer and the store, from those of the body
 
-module _ (D : Dictionary) (limit room : ℕ) (h : Header) (own : ℕ) (s : List ℕ) (ok : Limited limit) (e : Headed h own s) where
+module _ (D : Dictionary) (limit room : ℕ) (h : Header) (own : ℕ) (s : List ℕ) (ok : allowed limit ≡ true) (e : Headed h own s) (short : h .length ≤ lastPlace) where
   abbrev body-of : List ℕ
   body-of = take (h .length - 20) (drop 20 s)
 
   -- the body is refused, or not, where the message is past its header
   body-answer : answer (rest D limit room s) (runCounts D 20 body-of) ≡ runAnswer D limit room 20 body-of
-  unfolding runAnswer runRecords messageRun messageRecords
-  body-answer = rw (body h own s e .body-is)
+  body-answer =
+      let b = body h own s e in
+      let l = length-take (h .length - 20) (drop 20 s) in
+      rw (← b .body-is) (past-limit D limit room 20 body-of (omega (arith, b .length-is, b .facts .twenty)) ok)
 
   past : answer (rest D limit room s) (messageOf D s) ≡ decoded D limit room s
-  past = message-past D limit room s (ok .low) (ok .high) (body h own s e .passes-all)
+  past = message-past D limit room s ok (body h own s e .passes-all)
 
   pub refuses : {before after : List ℕ} {x : Filled} (n a : ℕ) → avps.answerOf x ≡ refused n a → Told D limit room 20 body-of before after x
       → (refused n a ≡ decoded D limit room s) × (after ≡ before)
@@ -84,21 +88,13 @@ module _ (D : Dictionary) (limit room : ℕ) (h : Header) (own : ℕ) (s : List 
 
     pub accepts : {x : ℕ} → x ≡ join own (c .errors)
         → (answerOf (Accepted (message x)) ≡ decoded D limit room s) × (after ≡ stored (answerOf (Accepted (message x))) (messageRecords D s) before)
-    unfolding answerOf avps.answerOf stored messageAs countsAs messageOf runCounts runRecords messageRun messageRecords
+    unfolding answerOf avps.answerOf stored messageAs countsAs messageOf messageRecords
     accepts joined =
         let b = body h own s e in
         let p = passed (rest D limit room s) (runCounts D 20 body-of) (countsAs c) (body-answer ∙ sym (t .answer-is)) in
         let counts = rw (b .body-is) at (p .1) in (
           ap accepted
-              (rw (
-                b .header-is,
-                joined,
-                b .errors-are,
-                ap (λ (x : definition.Counts). x .errors) counts,
-                ap (λ (x : definition.Counts). x .records) counts,
-                ap (λ (x : definition.Counts). x .tried) counts,
-                b .length-is,
-              ))
+              (rw (b .header-is, joined, b .errors-are, counts, b .length-is))
               ∙ sym (answers.accepts (rest D limit room s) (messageOf D s) (p .0)) ∙ past,
           rw (b .body-is) at (t .store-is),
         )

@@ -1,6 +1,6 @@
 -- The answer of the decoder of messages, as document 01's.
 -- Assumes nothing: these are definitions.
-use Prim.Native.Nat.{ℕ, _≤_}
+use Prim.Native.Nat.{ℕ}
 use mathlib.Core.Path.{_≡_}
 use mathlib.Core.Bool.{true}
 use mathlib.Core.List.{List}
@@ -15,11 +15,6 @@ use Rattle.header.specs.Parsed.{headerAs}
 use Rattle.diameter.specs.declared.Message.{Message}
 use Rattle.diameter.specs.declared.Decoded.{Decoded}
 use Rattle.diameter.specs.declared.Decoded.the-variants.{Accepted, Refused}
-
--- a depth limit that is not refused
-pub record Limited (limit : ℕ) : Type 0 where
-  pub low : 1 ≤ limit
-  pub high : limit ≤ 64
 
 -- a header that was accepted, with its error flags
 pub record Headed (h : Header) (e : ℕ) (s : List ℕ) : Type 0 where

@@ -1,17 +1,19 @@
 // Decoding: a message or one AVP, from a lent slice to a header, records in a lent store, error flags, counts and a length.
 // The header and the limit are tested here; `avps` reads the AVPs, and writes nothing until everything is known to fit.
 use attribute::Reading;
+use avp::AVP;
 use avps::Filled;
 use front::Front;
 use header::Header;
 use header::Parsed;
 use refusal::Refusal;
 ghost use mathlib.Core.Path.{_≡_};
+ghost use mathlib.Core.Bool.{true};
 ghost use lib.ListN.{length};
-ghost use Rattle.rfc6733.specs.Decoder.{capacity, decoded, messageRecords, avpAlone, aloneRecords, stored};
+ghost use Rattle.rfc6733.specs.Decoder.{allowed, capacity, decoded, messageRecords, avpAlone, aloneRecords, stored};
 ghost use Rattle.attribute.specs.Attributes.{dictionary};
 ghost use Rattle.avps.specs.Answers as avps;
-ghost use Rattle.diameter.specs.Answers.{Limited, Headed, Complete, answerOf};
+ghost use Rattle.diameter.specs.Answers.{Headed, Complete, answerOf};
 
 /// An accepted message: its header, error flags, number of records, headers tried and consumed length.
 pub struct Message {
@@ -29,7 +31,7 @@ pub enum Decoded {
 }
 
 /// The largest depth limit.
-pub const MOST_DEPTH: usize = 64;
+pub const MOST_DEPTH: usize = AVP::MOST_DEPTH;
 
 // A message whose header was accepted.
 fn parse_body(
@@ -40,7 +42,7 @@ fn parse_body(
     input: &[u8],
     store: &mut [u8],
 ) -> Decoded
-    requires { ⌜ Limited limit ⌝ }
+    requires { ⌜ allowed limit ≡ true ⌝ }
     requires { ⌜ Headed header errors (now input) ⌝ }
     ensures answer { λ r. ⌜ answerOf r ≡ decoded (dictionary reading) limit (capacity (length (now (store .entry)))) (now (input .entry)) ⌝ }
     ensures store { λ r. ⌜ now (store .exit) ≡ stored (answerOf r) (messageRecords (dictionary reading) (now (input .entry))) (now (store .entry)) ⌝ }
@@ -64,10 +66,7 @@ pub fn parse(reading: Reading, limit: usize, input: &[u8], store: &mut [u8]) -> 
     ensures answer { λ r. ⌜ answerOf r ≡ decoded (dictionary reading) limit (capacity (length (now (store .entry)))) (now (input .entry)) ⌝ }
     ensures store { λ r. ⌜ now (store .exit) ≡ stored (answerOf r) (messageRecords (dictionary reading) (now (input .entry))) (now (store .entry)) ⌝ }
 {
-    if limit < 1 {
-        return Decoded::Refused(Refusal::BadDepth);
-    }
-    if MOST_DEPTH < limit {
+    if !count::allowed(limit) {
         return Decoded::Refused(Refusal::BadDepth);
     }
     match Header::parse(input) {
@@ -85,7 +84,7 @@ pub fn parse(reading: Reading, limit: usize, input: &[u8], store: &mut [u8]) -> 
 
 // An AVP that is complete.
 fn parse_one(reading: Reading, limit: usize, size: usize, input: &[u8], store: &mut [u8]) -> Filled
-    requires { ⌜ Limited limit ⌝ }
+    requires { ⌜ allowed limit ≡ true ⌝ }
     requires { ⌜ Complete size (now input) ⌝ }
     ensures answer { λ r. ⌜ avps.answerOf r ≡ avpAlone (dictionary reading) limit (capacity (length (now (store .entry)))) (now (input .entry)) ⌝ }
     ensures store { λ r. ⌜ now (store .exit) ≡ stored (avps.answerOf r) (aloneRecords (dictionary reading) (now (input .entry))) (now (store .entry)) ⌝ }
@@ -98,10 +97,7 @@ pub fn parse_avp(reading: Reading, limit: usize, input: &[u8], store: &mut [u8])
     ensures answer { λ r. ⌜ avps.answerOf r ≡ avpAlone (dictionary reading) limit (capacity (length (now (store .entry)))) (now (input .entry)) ⌝ }
     ensures store { λ r. ⌜ now (store .exit) ≡ stored (avps.answerOf r) (aloneRecords (dictionary reading) (now (input .entry))) (now (store .entry)) ⌝ }
 {
-    if limit < 1 {
-        return Filled::Refused(Refusal::BadDepth);
-    }
-    if MOST_DEPTH < limit {
+    if !count::allowed(limit) {
         return Filled::Refused(Refusal::BadDepth);
     }
     match front::head(input) {

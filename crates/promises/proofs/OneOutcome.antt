@@ -46,6 +46,7 @@ use Rattle.record.proofs.Record.get.Reads as record-get
 use Rattle.value.proofs.Value.new.Reads as value-new
 use Rattle.value.proofs.Value.kind.Reads as value-kind
 use Rattle.value.proofs.Value.number.Reads as value-number
+use Rattle.count.proofs.allowed.Reads as allowed
 use Rattle.count.proofs.count_run.Reads as count-run
 use Rattle.avps.proofs.parse_avps.Reads as parse-avps
 use Rattle.diameter.proofs.parse.Reads as parse
@@ -63,6 +64,7 @@ use Rattle.header.proofs.AnswerOf as header-answers
 use Rattle.front.proofs.AnswerOf as front-answers
 use Rattle.record.proofs.RecordAs.{record-as-injective}
 use Rattle.value.proofs.ReadAs.{one-value}
+use Rattle.count.proofs.AnswerOf as count-answers
 use Rattle.avps.proofs.AnswerOf as avps-answers
 use Rattle.diameter.proofs.AnswerOf as diameter-answers
 use Rattle.writer.proofs.AnswerOf as writer-answers
@@ -227,8 +229,11 @@ value-number-one κs a r r′ s p q = p ∙ sym q
 
 -- ---- count
 
+allowed-one : Single allowed.Post
+allowed-one κs a r r′ s p q = p ∙ sym q
+
 count-run-one : Single count-run.Post
-count-run-one κs a r r′ s p q = p ∙ sym q
+count-run-one κs a r r′ s p q = count-answers.answer-of-injective r r′ (p ∙ sym q)
 
 -- ---- avps: the store, the fifth parameter, is told too
 

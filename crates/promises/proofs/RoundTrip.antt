@@ -14,7 +14,7 @@ use Rattle.rfc6733.specs.Answer.{Answer, accepted}
 use Rattle.rfc6733.specs.Header.{headerOf, messageLength}
 use Rattle.rfc6733.specs.Record.{recordSize, laid}
 use Rattle.rfc6733.specs.Decoder as definition
-use Rattle.rfc6733.specs.Decoder.{decoded, messageRecords, messageOf, stored}
+use Rattle.rfc6733.specs.Decoder.{runCounts, decoded, messageRecords, messageOf, stored}
 use Rattle.rfc6733.specs.Writer.{tableBytes, output}
 use Rattle.rfc6733.proofs.Accepted.{when-accepted}
 use Rattle.rfc6733.proofs.Layouts.{laid-length}
@@ -48,7 +48,7 @@ record Left (r : Reading) (s : List ℕ) (m : Message) (store : List ℕ) : Type
 
 left : (r : Reading) (limit room : ℕ) (s : List ℕ) (m : Message) (store rest : List ℕ)
     → decoded (dictionary r) limit room s ≡ accepted (messageAs m) → store ≡ laid (messageRecords (dictionary r) s) ++ rest → Left r s m store
-unfolding messageOf messageAs
+unfolding messageOf runCounts messageRecords messageAs
 left r limit room s m store rest e is =
     let D = dictionary r in
     let a = when-accepted D limit room s (messageAs m) e in

@@ -8,8 +8,9 @@ use native.Mathlib.Omega.{arith}
 use lib.ListN.{length, drop, length-take}
 use Rattle.rfc6733.specs.Answer.{accepted}
 use Rattle.rfc6733.specs.Header.{messageLength}
+use Rattle.rfc6733.specs.Avp.{mostDepth}
 use Rattle.rfc6733.specs.Dictionary.{Dictionary, sawp, rfc}
-use Rattle.rfc6733.specs.Decoder.{Message, messageBody, messageRun, messageOf, decoded}
+use Rattle.rfc6733.specs.Decoder.{Message, runCounts, messageBody, messageOf, decoded}
 use Rattle.rfc6733.specs.Writer.{most24}
 use Rattle.rfc6733.proofs.Accepted.{when-accepted}
 use Rattle.rfc6733.proofs.Extremal.{Reaches, reached}
@@ -21,7 +22,7 @@ body-length s = let l = length-take (messageLength s - 20) (drop 20 s) in omega 
 
 pub headers-tried : (D : Dictionary) (limit room : ℕ) (s : List ℕ) (m : Message)
     → decoded D limit room s ≡ accepted m → 6 * m .counts .tried ≤ m .counts .length - 20
-unfolding messageOf messageRun
+unfolding messageOf runCounts
 headers-tried D limit room s m e =
     let a = when-accepted D limit room s m e in
     let b = tried-bound D (messageBody s) (a .tiled) in
@@ -30,7 +31,7 @@ headers-tried D limit room s m e =
     omega (arith, body-length s)
 
 -- the best such bound, in either reading
-module _ (limit room k : ℕ) (low : 2 ≤ limit) (high : limit ≤ 64) (fits : k ≤ room) (short : 20 + 12 * k ≤ most24) where
+module _ (limit room k : ℕ) (low : 2 ≤ limit) (high : limit ≤ mostDepth) (fits : k ≤ room) (short : 20 + 12 * k ≤ most24) where
   pub best-sawp : Reaches sawp limit room k
   unfolding sawp
   best-sawp = reached sawp refl limit room k low high fits short

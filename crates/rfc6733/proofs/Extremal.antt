@@ -13,11 +13,11 @@ use Rattle.octets.specs.Run.{item, after, Tree, done, broken, group, treeIn, tr
 use Rattle.octets.proofs.Runs.{tree-group}
 use Rattle.rfc6733.specs.Answer.{accepted}
 use Rattle.rfc6733.specs.Flags.{bit}
-use Rattle.rfc6733.specs.Avp.{headSize, vendor, dataSize, padding, avpSize, payload, avpRefusals, complete}
+use Rattle.rfc6733.specs.Avp.{headSize, vendor, dataSize, padding, avpSize, payload, avpRefusals, complete, mostDepth}
 use Rattle.rfc6733.specs.Value.{grouped}
 use Rattle.rfc6733.specs.Dictionary.{Dictionary}
 use Rattle.rfc6733.specs.Record.{kindOf, avps, records}
-use Rattle.rfc6733.specs.Decoder.{messageRun, messageRecords, messageRefusals, messageOf, decoded}
+use Rattle.rfc6733.specs.Decoder.{allowed, runRecords, runCounts, messageBody, messageRefusals, messageOf, decoded}
 use Rattle.rfc6733.specs.Marked.{failing}
 use Rattle.rfc6733.specs.Writer.{most24}
 use Rattle.rfc6733.specs.Extremal.{failingGroups, extremal}
@@ -75,12 +75,12 @@ pub record Reaches (D : Dictionary) (limit room k : ℕ) : Type 0 where
   pub length-is : messageOf D (extremal k) .counts .length ≡ 20 + 12 * k
 
 pub reached : (D : Dictionary) → D .kind 279 0 ≡ grouped → (limit room k : ℕ)
-    → 2 ≤ limit → limit ≤ 64 → k ≤ room → 20 + 12 * k ≤ most24 → Reaches D limit room k
-unfolding extremal decoded messageRefusals messageOf messageRun messageRecords
+    → 2 ≤ limit → limit ≤ mostDepth → k ≤ room → 20 + 12 * k ≤ most24 → Reaches D limit room k
+unfolding extremal allowed decoded messageRefusals messageOf runCounts runRecords
 reached D g limit room k low high fits le =
     let n = groups-length k in
     let m = message-read (record { flags = 0; code = 0; appId = 0; hopId = 0; endId = 0 }) (failingGroups k) (omega arith) in
-    let run : messageRun D (extremal k) ≡ chain k = ap (tree (avps D)) (m .body-is) ∙ chained D g k in
+    let run : tree (avps D) (messageBody (extremal k)) ≡ chain k = ap (tree (avps D)) (m .body-is) ∙ chained D g k in
     let rs = ap length (ap (records D 20 1) run) ∙ chain-records D 20 1 k in
     let deep = chain-deepest k in
     record {
@@ -89,7 +89,7 @@ reached D g limit room k low high fits le =
           accepts (messageRefusals D limit room (extremal k)) (messageOf D (extremal k))
           (simp (
             le-leb 1 limit (omega arith),
-            le-leb limit 64 high,
+            le-leb limit mostDepth high,
             passes-append,
             m .header,
             run,

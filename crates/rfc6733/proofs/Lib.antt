@@ -12,8 +12,8 @@ pub mod Alone
 pub mod Entered
 pub mod Tried
 pub mod Messages
-pub mod Accepted
 pub mod Decoded
+pub mod Accepted
 pub mod Extremal
 pub mod Demand3
 pub mod MarkedMessages

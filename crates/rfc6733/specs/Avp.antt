@@ -96,6 +96,10 @@ avpRefusals s =
 unfoldable pub complete : List ℕ → Bool
 complete s = passes (avpRefusals s)
 
+-- AVPs nest at most so deep, by the largest limit (document 01)
+abbrev pub mostDepth : ℕ
+mostDepth = 64
+
 -- a is an AVP's own bytes, all of them
 pub record Exact (a : List ℕ) : Type 0 where
   pub whole : complete a ≡ true

@@ -1,7 +1,7 @@
 -- What each way of decoding answers, and what the store holds afterwards (document 01, "Numbers returned").
 -- Assumes nothing: these are definitions.
 use Prim.Native.Nat.{ℕ, _-_, _/_}
-use mathlib.Core.Bool.{not, _&&_}
+use mathlib.Core.Bool.{Bool, not, _&&_}
 use mathlib.Core.List.{List, [], _∷_, _++_}
 use lib.ListN.{length, take, drop, replicate}
 use lib.Dec.{leb, ltb}
@@ -9,7 +9,7 @@ use Rattle.octets.specs.Run.{Tree, tree, item, tiles, tried, deepest}
 use Rattle.rfc6733.specs.Answer.{Answer, accepted, refused, Refusal, refuse, answer, notTiled, tooDeep, noRecords, badDepth}
 use Rattle.rfc6733.specs.Flags.{join}
 use Rattle.rfc6733.specs.Header.{Header, headerSize, messageLength, headerOf, headerErrors, headerRefusals}
-use Rattle.rfc6733.specs.Avp.{avpSize, avpRefusals}
+use Rattle.rfc6733.specs.Avp.{avpSize, avpRefusals, mostDepth}
 use Rattle.rfc6733.specs.Dictionary.{Dictionary}
 use Rattle.rfc6733.specs.Record.{Record, recordSize, laid, avps, errors, records}
 
@@ -34,16 +34,42 @@ headerAlone s =
 -- ---- the limits
 
 -- the depth limit is 1..64
-abbrev pub limitRefusals : ℕ → List Refusal
-limitRefusals limit = refuse (not (leb 1 limit && leb limit 64)) badDepth 0 ∷ []
+unfoldable pub allowed : ℕ → Bool
+allowed limit = leb 1 limit && leb limit mostDepth
 
--- a run is refused where it tries a header deeper than the limit, or has more records than there is room for
-abbrev pub runRefusals : ℕ → ℕ → Tree → List Record → List Refusal
-runRefusals limit room t rs = refuse (ltb limit (deepest t)) tooDeep 0 ∷ refuse (ltb room (length rs)) noRecords (length rs) ∷ []
+abbrev pub limitRefusals : ℕ → List Refusal
+limitRefusals limit = refuse (not (allowed limit)) badDepth 0 ∷ []
 
 -- how many records a store of n bytes has room for
 abbrev pub capacity : ℕ → ℕ
 capacity n = n / recordSize
+
+-- ---- a run of AVPs, which stands at a place
+
+unfoldable pub runRecords : Dictionary → ℕ → List ℕ → List Record
+runRecords D place s = records D place 1 (tree (avps D) s)
+
+unfoldable pub runCounts : Dictionary → ℕ → List ℕ → Counts
+runCounts D place s =
+    let t = tree (avps D) s in
+    record { errors = errors D t; records = length (runRecords D place s); tried = tried t; length = length s }
+
+abbrev pub tileRefusals : Tree → List Refusal
+tileRefusals t = refuse (not (tiles t)) notTiled 0 ∷ []
+
+-- a header is tried deeper than the limit
+abbrev pub depthRefusals : ℕ → Tree → List Refusal
+depthRefusals limit t = refuse (ltb limit (deepest t)) tooDeep 0 ∷ []
+
+-- there are more records than there is room for
+abbrev pub roomRefusals : ℕ → List Record → List Refusal
+roomRefusals room rs = refuse (ltb room (length rs)) noRecords (length rs) ∷ []
+
+abbrev pub fitRefusals : ℕ → ℕ → Tree → List Record → List Refusal
+fitRefusals limit room t rs = depthRefusals limit t ++ roomRefusals room rs
+
+abbrev pub runRefusals : Dictionary → ℕ → ℕ → ℕ → List ℕ → List Refusal
+runRefusals D limit room place s = let t = tree (avps D) s in tileRefusals t ++ fitRefusals limit room t (runRecords D place s)
 
 -- ---- a message
 
@@ -51,28 +77,24 @@ capacity n = n / recordSize
 unfoldable pub messageBody : List ℕ → List ℕ
 messageBody s = take (messageLength s - headerSize) (drop headerSize s)
 
-unfoldable pub messageRun : Dictionary → List ℕ → Tree
-messageRun D s = tree (avps D) (messageBody s)
-
 unfoldable pub messageRecords : Dictionary → List ℕ → List Record
-messageRecords D s = records D headerSize 1 (messageRun D s)
+messageRecords D s = runRecords D headerSize (messageBody s)
 
 unfoldable pub messageRefusals : Dictionary → ℕ → ℕ → List ℕ → List Refusal
 messageRefusals D limit room s =
-    let t = messageRun D s in
-    limitRefusals limit
-    ++ (headerRefusals s ++ (refuse (not (tiles t)) notTiled 0 ∷ runRefusals limit room t (messageRecords D s)))
+    limitRefusals limit ++ (headerRefusals s ++ runRefusals D limit room headerSize (messageBody s))
 
 -- what its acceptance returns: the flags join the header's and the top level's
 unfoldable pub messageOf : Dictionary → List ℕ → Message
 messageOf D s =
+    let run = runCounts D headerSize (messageBody s) in
     record {
       header = headerOf s;
       counts =
           record {
-            errors = join (headerErrors s) (errors D (messageRun D s));
-            records = length (messageRecords D s);
-            tried = tried (messageRun D s);
+            errors = join (headerErrors s) (run .errors);
+            records = run .records;
+            tried = run .tried;
             length = messageLength s;
           };
     }
@@ -81,27 +103,20 @@ messageOf D s =
 unfoldable pub decoded : Dictionary → ℕ → ℕ → List ℕ → Answer Message
 decoded D limit room s = answer (messageRefusals D limit room s) (messageOf D s)
 
--- ---- one AVP alone: a run of one, at depth 1. Places count from its first byte
-
-unfoldable pub aloneRun : Dictionary → List ℕ → Tree
-aloneRun D s = tree (avps D) (item (avps D) s)
+-- ---- one AVP alone: its own bytes are a run of one, at depth 1. Places count from its first byte
 
 unfoldable pub aloneRecords : Dictionary → List ℕ → List Record
-aloneRecords D s = records D 0 1 (aloneRun D s)
+aloneRecords D s = runRecords D 0 (item (avps D) s)
 
 unfoldable pub aloneRefusals : Dictionary → ℕ → ℕ → List ℕ → List Refusal
 aloneRefusals D limit room s =
-    limitRefusals limit ++ (avpRefusals s ++ runRefusals limit room (aloneRun D s) (aloneRecords D s))
+    limitRefusals limit ++ (avpRefusals s ++ fitRefusals limit room (tree (avps D) (item (avps D) s)) (aloneRecords D s))
 
 -- its padded size is the length
 unfoldable pub aloneOf : Dictionary → List ℕ → Counts
 aloneOf D s =
-    record {
-      errors = errors D (aloneRun D s);
-      records = length (aloneRecords D s);
-      tried = tried (aloneRun D s);
-      length = avpSize s;
-    }
+    let run = runCounts D 0 (item (avps D) s) in
+    record { errors = run .errors; records = run .records; tried = run .tried; length = avpSize s }
 
 unfoldable pub avpAlone : Dictionary → ℕ → ℕ → List ℕ → Answer Counts
 avpAlone D limit room s = answer (aloneRefusals D limit room s) (aloneOf D s)

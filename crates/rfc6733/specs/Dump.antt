@@ -6,6 +6,7 @@ use mathlib.Core.List.{List, [], _∷_, _++_}
 use lib.ListN.{take}
 use lib.Dec.{ltb}
 use Rattle.rfc6733.specs.Answer.{Answer, accepted, refused}
+use Rattle.rfc6733.specs.Avp.{mostDepth}
 use Rattle.rfc6733.specs.Dictionary.{sawp}
 use Rattle.rfc6733.specs.Record.{Record}
 use Rattle.rfc6733.specs.Decoder.{Counts, Message, decoded, messageRecords}
@@ -66,4 +67,4 @@ dumpText (refusal n a) = refusedWord ++ (32 ∷ line (n ∷ a ∷ []))
 
 -- what the dump writes: up to 32,768 bytes of input, in the sawp reading, with 64 levels and 1,024 records
 unfoldable pub dumped : List ℕ → List ℕ
-dumped s = let front = take 32768 s in dumpText (dump (decoded sawp 64 1024 front) (messageRecords sawp front))
+dumped s = let front = take 32768 s in dumpText (dump (decoded sawp mostDepth 1024 front) (messageRecords sawp front))

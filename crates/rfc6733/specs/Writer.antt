@@ -74,7 +74,7 @@ unfoldable pub keeps : ℕ → ℕ → Record → Bool
 keeps allowed n r =
     all
     (leb 1 (r .depth)
-    ∷ leb (r .depth) 64
+    ∷ leb (r .depth) avp.mostDepth
     ∷ leb (r .depth) allowed
     ∷ leb (r .kind) time
     ∷ (bit avp.vendorBit (r .flags) || eqb (r .vendor) 0)

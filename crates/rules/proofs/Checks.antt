@@ -10,7 +10,7 @@ use lib.Seq.{drop-drop}
 use lib.Dec.{eqb}
 use borrow.Author.Tests.{le-leb, lt-leb, eq-eqb, ne-eqb, not-true, not-false}
 use Rattle.rfc6733.specs.Flags.{bit}
-use Rattle.rfc6733.specs.Avp.{vendorBit, padding}
+use Rattle.rfc6733.specs.Avp.{vendorBit, padding, mostDepth}
 use Rattle.rfc6733.specs.Value.{time}
 use Rattle.rfc6733.specs.Record.{Record, recordSize}
 use Rattle.rfc6733.specs.Writer.{entryAt, tableOf, isGroup, headOf, statedData, keeps, keepers, allowedAfter}
@@ -58,16 +58,16 @@ module _ (allowed n : ℕ) (r : Record) where
   no-depth h = rw (lt-leb 1 (r .depth) h)
 
   module _ (some : 1 ≤ r .depth) where
-    pub too-deep : 64 < r .depth → false ≡ keeps allowed n r
+    pub too-deep : mostDepth < r .depth → false ≡ keeps allowed n r
     unfolding keeps
-    too-deep h = rw (le-leb 1 (r .depth) some, lt-leb (r .depth) 64 h)
+    too-deep h = rw (le-leb 1 (r .depth) some, lt-leb (r .depth) mostDepth h)
 
-    module _ (most : r .depth ≤ 64) where
+    module _ (most : r .depth ≤ mostDepth) where
       module _ (allows : r .depth ≤ allowed) where
         pub no-kind : time < r .kind → false ≡ keeps allowed n r
         unfolding keeps
         no-kind h =
-            rw (le-leb 1 (r .depth) some, le-leb (r .depth) 64 most, le-leb (r .depth) allowed allows, lt-leb (r .kind) time h)
+            rw (le-leb 1 (r .depth) some, le-leb (r .depth) mostDepth most, le-leb (r .depth) allowed allows, lt-leb (r .kind) time h)
 
         module _ (kinds : r .kind ≤ time) (vendor : Bool) (vendor-is : vendor ≡ bit vendorBit (r .flags) || eqb (r .vendor) 0) where
           rest-is : (vendor && (cond (isGroup r) (eqb (r .padding) 0 && eqb (r .pads) 0) (keepsLeaf n r) && true)) ≡ keeps allowed n r
@@ -75,7 +75,7 @@ module _ (allowed n : ℕ) (r : Record) where
           rest-is =
               rw (
                 le-leb 1 (r .depth) some,
-                le-leb (r .depth) 64 most,
+                le-leb (r .depth) mostDepth most,
                 le-leb (r .depth) allowed allows,
                 le-leb (r .kind) time kinds,
                 vendor-is,

@@ -9,13 +9,10 @@ ghost use mathlib.Core.Bool.{_&&_, _||_};
 ghost use Prim.Native.Nat.{_-_, _%_, _^_, _≤_};
 ghost use lib.Dec.{eqb};
 ghost use Rattle.rfc6733.specs.Flags.{bit};
-ghost use Rattle.rfc6733.specs.Avp.{vendorBit};
+ghost use Rattle.rfc6733.specs.Avp.{vendorBit, mostDepth};
 ghost use Rattle.rfc6733.specs.Writer.{tableOf, headOf, keeps, keepers, allowedAfter};
 ghost use Rattle.record.specs.Stored.{recordAs};
 ghost use Rattle.rules.specs.Rules.{keepsLeaf};
-
-// A table nests at most so deep.
-const MOST_DEPTH: u8 = 64;
 
 /// The size of the header of the record's AVP.
 pub fn header_size(r: Record) -> usize
@@ -86,7 +83,7 @@ fn keeps(r: Record, available: usize) -> bool
     if r.depth < 1 {
         return false;
     }
-    if MOST_DEPTH < r.depth {
+    if AVP::MOST_DEPTH < r.depth as usize {
         return false;
     }
     if TIME < r.kind {
@@ -103,7 +100,7 @@ fn keeps(r: Record, available: usize) -> bool
 
 // The depth that is allowed after it: one more only after a group.
 fn allowed_after(r: Record) -> u8
-    requires { ⌜ r .depth ≤ 64 ⌝ }
+    requires { ⌜ r .depth ≤ mostDepth ⌝ }
     ensures { λ n. ⌜ n ≡ allowedAfter (recordAs r) ⌝ }
 {
     if r.kind == GROUPED {

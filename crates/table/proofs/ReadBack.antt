@@ -13,7 +13,7 @@ use Rattle.rfc6733.specs.Answer.{accepted, passes}
 use Rattle.rfc6733.specs.Header.{messageLength, headerRefusals}
 use Rattle.rfc6733.specs.Dictionary.{Dictionary, sawp}
 use Rattle.rfc6733.specs.Record.{avps}
-use Rattle.rfc6733.specs.Decoder.{messageRun}
+use Rattle.rfc6733.specs.Decoder.{messageBody}
 use Rattle.rfc6733.specs.Forest.{forest, flat}
 use Rattle.rfc6733.specs.Writer.{Fields, tableOf, forestBytes, tableBytes, written}
 use Rattle.rfc6733.proofs.Messages.{message-read}
@@ -30,13 +30,13 @@ use Rattle.table.proofs.Written.{written-writable}
 pub record ReadBack (D : Dictionary) (f : Fields) (table pool : List ℕ) (n : ℕ) : Type 0 where
   pub header : passes (headerRefusals (tableBytes f table pool)) ≡ true
   pub stated : messageLength (tableBytes f table pool) ≡ n
-  pub tiled : tiles (messageRun D (tableBytes f table pool)) ≡ true
-  pub same-tops : tops (messageRun D (tableBytes f table pool)) ≡ topRecords pool (forest (tableOf table))
+  pub tiled : tiles (tree (avps D) (messageBody (tableBytes f table pool))) ≡ true
+  pub same-tops : tops (tree (avps D) (messageBody (tableBytes f table pool))) ≡ topRecords pool (forest (tableOf table))
   pub depth-one : roots (forest (tableOf table)) ≡ ofDepth 1 (tableOf table)
 
 pub read-back : (D : Dictionary) (f : Fields) (table pool : List ℕ) (room n : ℕ) → Bytes table → written f table pool room ≡ accepted n
     → ReadBack D f table pool n
-unfolding tableBytes messageRun
+unfolding tableBytes
 read-back D f table pool room n bytes e =
     let w = written-writable f table pool room n e in
     let rs = tableOf table in

@@ -9,12 +9,13 @@ use native.Mathlib.Omega.{arith}
 use lib.ListN.{length, take, drop, length-drop}
 use lib.Seq.{length-take-le}
 use Rattle.octets.specs.Octets.{Bytes}
+use Rattle.octets.specs.Run.{tree}
 use Rattle.octets.proofs.Numbers.{be-small}
 use Rattle.rfc6733.specs.Answer.{accepted}
 use Rattle.rfc6733.specs.Header.{headerSize, messageLength, headerOf}
 use Rattle.rfc6733.specs.Dictionary.{Dictionary, sawp, rfc}
-use Rattle.rfc6733.specs.Record.{Record, laid, records}
-use Rattle.rfc6733.specs.Decoder.{Message, messageBody, messageRun, messageRecords, decoded}
+use Rattle.rfc6733.specs.Record.{Record, laid, avps}
+use Rattle.rfc6733.specs.Decoder.{Message, runRecords, messageBody, messageRecords, decoded}
 use Rattle.rfc6733.specs.Forest.{Forest, forest, flat}
 use Rattle.rfc6733.specs.Writer.{tableOf, forestBytes, messageBytes, tableBytes, most24, written}
 use Rattle.rfc6733.proofs.Accepted.{when-accepted}
@@ -40,10 +41,10 @@ pub record WrittenAgain (D : Dictionary) (s : List ℕ) (room : ℕ) : Type 0 wh
 module _ (D : Dictionary) (lawful : Lawful D) (limit room : ℕ) (s : List ℕ) (m : Message) (bytes : Bytes s)
     (e : decoded D limit room s ≡ accepted m) where
   abbrev trees : Forest
-  trees = forestOf D headerSize 1 (messageRun D s)
+  trees = forestOf D headerSize 1 (tree (avps D) (messageBody s))
 
   trip : Trip s 1 (messageBody s) trees
-  unfolding messageRun messageBody
+  unfolding messageBody
   trip =
       let a = when-accepted D limit room s m e in
       let h = a .header in
@@ -56,10 +57,10 @@ module _ (D : Dictionary) (lawful : Lawful D) (limit room : ℕ) (s : List ℕ) 
 
   -- the records in the table are those of the run
   table-is : tableOf (laid (messageRecords D s)) ≡ flat trees
-  unfolding messageRecords
+  unfolding messageRecords runRecords
   table-is =
-      let rs = records D headerSize 1 (messageRun D s) in
-      let same = flat-records D headerSize 1 (messageRun D s) in
+      let rs = messageRecords D s in
+      let same = flat-records D headerSize 1 (tree (avps D) (messageBody s)) in
       ap tableOf (sym (append-nil (laid rs)))
       ∙ laid-read rs [] (fit-bare rs (rw same (trip .fits)))
       ∙ ap (λ (x : List Record). map bare rs ++ x) (table-none [] (omega arith))

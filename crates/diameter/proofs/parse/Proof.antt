@@ -3,13 +3,14 @@
 -- Assumes nothing.
 use Prim.Native.Nat.{ℕ}
 use mathlib.Core.Path.{_≡_, refl, sym, ap, _∙_}
-use native.Mathlib.Omega.{arith}
+use mathlib.Core.Bool.{true}
 use lib.ListN.{length}
 use denote.Ref.{now}
 use borrow.Author.Needs.{needs}
+use borrow.Author.Tests.{not-true, not-false}
 use Rattle.rfc6733.specs.Answer.{refused}
-use Rattle.rfc6733.specs.Decoder.{capacity, decoded, stored}
-use Rattle.rfc6733.proofs.Decoded.{message-limit-under, message-limit-over, header-refused}
+use Rattle.rfc6733.specs.Decoder.{allowed, capacity, decoded, stored}
+use Rattle.rfc6733.proofs.Decoded.{message-limit-bad, header-refused}
 use Rattle.attribute.specs.Attributes.{dictionary}
 use Rattle.header.specs.Parsed as header
 use Rattle.diameter.specs.Answers.{answerOf}
@@ -19,38 +20,38 @@ use Rattle.diameter.proofs.parse.Tie as tie
 abbrev start : tie.After-parse → tie.Start
 start c = c .before .before .before .before .before
 
+-- the limit is allowed
+within-limit : (c : tie.After-parse) → allowed (start c .args .limit) ≡ true
+within-limit c = let e = c .before in sym (e .before .allowed .ensures) ∙ not-false _ (e .if1 .left)
+
 -- the header's refusal is the message's
 refuses : (c : tie.After-parse) (n a : ℕ) → header.answerOf (c .parse .result) ≡ refused n a
     → let b = start c in refused n a ≡ decoded (dictionary (b .args .reading)) (b .args .limit) (capacity (length (now (b .args .store)))) (now (b .args .input))
-refuses c n a e = header-refused _ _ _ _ (omega arith) (omega arith) n a (sym e ∙ c .parse .ensures)
+refuses c n a e = header-refused _ _ _ _ (within-limit c) n a (sym e ∙ c .parse .ensures)
 
 returns : tie.Need-returns
 unfolding answerOf stored
-returns c = (message-limit-under _ _ _ _ (omega arith), refl)
-
-returns-2 : tie.Need-returns-2
-unfolding answerOf stored
-returns-2 c = (message-limit-over _ _ _ _ (omega arith), refl)
+returns c = (message-limit-bad _ _ _ _ (sym (c .before .allowed .ensures) ∙ not-true _ (c .if1 .taken)), refl)
 
 parse-body-requires : tie.Need-parse-body-requires
 parse-body-requires c κs =
     let h = c .before .before in
-    (record { low = omega arith; high = omega arith }, record { is = ap header.answerOf (sym (h .header .given .1)) ∙ h .before .before .parse .ensures })
+    (within-limit (h .before .before), record { is = ap header.answerOf (sym (h .header .given .1)) ∙ h .before .before .parse .ensures })
 
-returns-4 : tie.Need-returns-4
+returns-3 : tie.Need-returns-3
 unfolding answerOf stored header.answerOf
-returns-4 c = (refuses (c .before .before .before) _ _ (ap header.answerOf (c .before .why .given .1)), refl)
+returns-3 c = (refuses (c .before .before .before) _ _ (ap header.answerOf (c .before .why .given .1)), refl)
 
 pub parse-spec : {M : Type 1} → statement M
 parse-spec =
     tie.close
     (tie.spec
+    (λ c κs. tt)
     returns
-    returns-2
     (λ c κs. tt)
     (λ c. search needs)
     parse-body-requires
     (λ c. search needs)
     (λ c. search needs)
     (λ c. search needs)
-    returns-4)
+    returns-3)

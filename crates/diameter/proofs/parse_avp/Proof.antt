@@ -3,13 +3,14 @@
 -- Assumes nothing.
 use Prim.Native.Nat.{ℕ}
 use mathlib.Core.Path.{_≡_, refl, sym, ap, _∙_}
-use native.Mathlib.Omega.{arith}
+use mathlib.Core.Bool.{true}
 use lib.ListN.{length}
 use denote.Ref.{now}
 use borrow.Author.Needs.{needs}
+use borrow.Author.Tests.{not-true, not-false}
 use Rattle.rfc6733.specs.Answer.{refused}
-use Rattle.rfc6733.specs.Decoder.{capacity, avpAlone, stored}
-use Rattle.rfc6733.proofs.Decoded.{alone-limit-under, alone-limit-over, front-refused}
+use Rattle.rfc6733.specs.Decoder.{allowed, capacity, avpAlone, stored}
+use Rattle.rfc6733.proofs.Decoded.{alone-limit-bad, front-refused}
 use Rattle.attribute.specs.Attributes.{dictionary}
 use Rattle.avps.specs.Answers as avps
 use Rattle.front.specs.Front as front
@@ -20,40 +21,40 @@ use Rattle.diameter.proofs.parse_avp.Tie as tie
 abbrev start : tie.After-head → tie.Start
 start c = c .before .before .before .before .before
 
+-- the limit is allowed
+within-limit : (c : tie.After-head) → allowed (start c .args .limit) ≡ true
+within-limit c = let e = c .before in sym (e .before .allowed .ensures) ∙ not-false _ (e .if1 .left)
+
 -- the refusal of what stands at the front
 refuses : (c : tie.After-head) (n a : ℕ) → front.answerOf (c .head .result) ≡ refused n a
     → let b = start c in refused n a ≡ avpAlone (dictionary (b .args .reading)) (b .args .limit) (capacity (length (now (b .args .store)))) (now (b .args .input))
 unfolding front.frontOf
-refuses c n a e = front-refused _ _ _ _ (omega arith) (omega arith) (front.avpOf (now (start c .args .input))) n a (sym (c .head .ensures) ∙ e)
+refuses c n a e = front-refused _ _ _ _ (within-limit c) (front.avpOf (now (start c .args .input))) n a (sym (c .head .ensures) ∙ e)
 
 returns : tie.Need-returns
 unfolding avps.answerOf stored
-returns c = (alone-limit-under _ _ _ _ (omega arith), refl)
-
-returns-2 : tie.Need-returns-2
-unfolding avps.answerOf stored
-returns-2 c = (alone-limit-over _ _ _ _ (omega arith), refl)
+returns c = (alone-limit-bad _ _ _ _ (sym (c .before .allowed .ensures) ∙ not-true _ (c .if1 .taken)), refl)
 
 parse-one-requires : tie.Need-parse-one-requires
 parse-one-requires c κs =
     let a = c .before .before in
     let w = was-accepted _ _ (ap front.answerOf (sym (a .a .given .1)) ∙ a .before .before .head .ensures) in
-    (record { low = omega arith; high = omega arith }, record { whole = w .0; size-is = here _ _ (w .1) .size-is })
+    (within-limit (a .before .before), record { whole = w .0; size-is = here _ _ (w .1) .size-is })
 
-returns-4 : tie.Need-returns-4
+returns-3 : tie.Need-returns-3
 unfolding avps.answerOf stored front.answerOf
-returns-4 c = (refuses (c .before .before .before) _ _ (ap front.answerOf (c .before .why .given .1)), refl)
+returns-3 c = (refuses (c .before .before .before) _ _ (ap front.answerOf (c .before .why .given .1)), refl)
 
 pub parse-avp-spec : {M : Type 1} → statement M
 parse-avp-spec =
     tie.close
     (tie.spec
+    (λ c κs. tt)
     returns
-    returns-2
     (λ c κs. tt)
     (λ c. search needs)
     parse-one-requires
     (λ c. search needs)
     (λ c. search needs)
     (λ c. search needs)
-    returns-4)
+    returns-3)

@@ -1,12 +1,14 @@
 -- `parse_body` meets its contract: the body that it lends is the run of the definition, so the message is refused as the body is, and
 -- else accepted with the body's counts.
 -- Assumes nothing.
+use Prim.Native.Nat.{_≤_}
 use mathlib.Core.Path.{refl}
 use native.Mathlib.Omega.{arith}
 use denote.Ref.{now}
 use borrow.Author.Needs.{needs}
 use Rattle.rfc6733.specs.Decoder.{stored}
 use Rattle.avps.specs.Answers as avps
+use Rattle.avps.specs.Answers.{lastPlace}
 use Rattle.avps.proofs.Told.{told}
 use Rattle.diameter.specs.Answers.{answerOf}
 use Rattle.diameter.proofs.Bodies.{Body, body, refuses, accepts}
@@ -15,6 +17,10 @@ use Rattle.diameter.proofs.parse_body.Tie as tie
 
 headed : (b : tie.Start) → Body (b .args .header) (b .args .errors) (now (b .args .input))
 headed b = body _ _ _ (b .pre .1)
+
+-- the length has four bytes
+short : (b : tie.Start) → b .args .header .length ≤ lastPlace
+short b = omega (arith, b .good)
 
 -- what was answered of the body
 abbrev read : tie.After-slice-known2 → tie.After-parse-avps
@@ -40,7 +46,7 @@ returns c =
     let answered = read (found .before .before) in
     let b = start answered in
     let p = answered .parse-avps .ensures in
-    accepts _ _ _ _ _ _ (b .pre .0) (b .pre .1) (told (found .run .given .1) (p .0) (p .1)) (c .join .ensures)
+    accepts _ _ _ _ _ _ (b .pre .0) (b .pre .1) (short b) (told (found .run .given .1) (p .0) (p .1)) (c .join .ensures)
 
 returns-2 : tie.Need-returns-2
 unfolding answerOf stored avps.answerOf
@@ -49,7 +55,7 @@ returns-2 c =
     let answered = read (found .before .before) in
     let b = start answered in
     let p = answered .parse-avps .ensures in
-    refuses _ _ _ _ _ _ (b .pre .0) (b .pre .1) _ _ refl (told (found .why .given .1) (p .0) (p .1))
+    refuses _ _ _ _ _ _ (b .pre .0) (b .pre .1) (short b) _ _ refl (told (found .why .given .1) (p .0) (p .1))
 
 pub parse-body-spec : {M : Type 1} → statement M
 parse-body-spec =

@@ -2,6 +2,7 @@
 -- is none. A record is always allowed the depth that it has.
 -- Assumes nothing.
 use native.Mathlib.Omega.{arith}
+use borrow.Author.Needs.{needs}
 use Rattle.record.specs.Stored.{recordAs}
 use Rattle.rules.proofs.Records.{is-group, no-group}
 use Rattle.rules.proofs.Checks.{no-depth, too-deep, no-kind, other-vendor, then-group, then-leaf}
@@ -55,6 +56,7 @@ keeps-spec =
     tie.close
     (tie.spec
     returns
+    (λ c. search needs)
     returns-2
     returns-3
     (λ c κs. tt)

@@ -1,6 +1,6 @@
 -- `read_run`, `read_avp` and `read_value` meet their contracts, which are proved together since each calls the next and the last the first.
 -- A run's records are those of its AVPs one after the other (`Filling`); an AVP's are its own and its members' (`OwnRecord`); and the data
--- of an AVP are entered where their value is Grouped (`Entering`). What is left of the depth falls when a group is entered.
+-- of an AVP are entered where their value is Grouped (`Entering`). The levels left fall when a group is entered.
 -- Assumes nothing.
 use borrow.Author.Needs.{needs}
 use Rattle.avps.proofs.fill.read_run.Reads as run-reads
@@ -46,6 +46,8 @@ pub +read-avp+read-run+read-value-spec : {M : Type 1} → statement M
     (of-avp.cast-t27 t)
     (of-avp.add-t19 t)
     (of-avp.cast-t28 t)
+    (λ c. search needs)
+    (of-avp.sub-t14 t)
     (of-avp.cast-t25 t)
     (of-avp.sub-t29 t)
     (of-avp.cast-t30 t)
@@ -85,7 +87,7 @@ pub +read-avp+read-run+read-value-spec : {M : Type 1} → statement M
     (λ c κs. tt)
     (λ c κs. tt)
     (λ c κs. tt)
-    (of-value.add-read-run t)
+    (of-value.sub-read-run t)
     (of-value.read-run-requires t)
     (λ c. search needs)
     (of-value.returns t)

@@ -1,6 +1,6 @@
 -- `read_avp`: an AVP's records are its own and its members' after it (`OwnRecord`).
 -- Assumes nothing.
-use Prim.Native.Nat.{ℕ, _+_, _-_, _≤_}
+use Prim.Native.Nat.{ℕ, _+_, _-_, _≤_, _<_}
 use native.Mathlib.Omega.{arith}
 use lib.ListN.{length, take, drop}
 use denote.Ref.{now}
@@ -11,7 +11,7 @@ use Rattle.rfc6733.specs.Record.{recordSize}
 use Rattle.rfc6733.specs.Entered.{entered}
 use Rattle.attribute.specs.Attributes.{dictionary}
 use Rattle.avps.specs.Fill.{Room}
-use Rattle.avps.proofs.OwnRecord.{lentData, Opened, opened, room-for-own, room-for-members, avp-written}
+use Rattle.avps.proofs.OwnRecord.{lentData, Opened, opened, room-for-own, level-for-own, room-for-members, avp-written}
 use Rattle.avp.proofs.AVP.header_size.Reads as header-size
 use Rattle.flags.proofs.join.Reads as join-flags
 use Rattle.record.proofs.Record.put.Reads as put
@@ -62,14 +62,18 @@ module _ (t : ℕ) where
       → recordSize ≤ length (now (avp-start c .args .store))
   avp-room c = let b = avp-start c in room-for-own _ (avp-opened c) (b .pre .1 .0 .1) (b .pre .1 .1 .0)
 
-  -- and for its members', whose places and depths fit too
+  -- its header takes a level
+  avp-level : (c : avp.After-header-size (avp-calls t) (avp-at t) avp-reads.Post) → 0 < avp-start c .args .left
+  avp-level c = let b = avp-start c in level-for-own _ (avp-opened c) (b .pre .1 .0 .1) (b .pre .1 .1 .0)
+
+  -- and there is room for its members', whose places and depths fit too
   avp-inside : (c : avp.After-header-size (avp-calls t) (avp-at t) avp-reads.Post)
       → let b = avp-start c in
       let a = b .args .a in
       let from = c .header-size .result in
       let body = lentData (now (b .args .s)) a from in
       let store = now (b .args .store) in
-      Room (entered (dictionary (b .args .reading)) (a .code) (a .«vendor_id») body) (b .args .place + from) (length body) (b .args .depth + 1)
+      Room (entered (dictionary (b .args .reading)) (a .code) (a .«vendor_id») body) (b .args .place + from) (length body) (b .args .left - 1)
       (length (take (length store - recordSize) (drop recordSize store)))
   avp-inside c = let b = avp-start c in room-for-members _ (avp-opened c) (b .pre .1 .0 .1) (now (b .args .store)) (b .pre .1 .1 .0)
 
@@ -94,7 +98,7 @@ module _ (t : ℕ) where
   part-read-value-start-2 c = omega (arith, avp-room (c .before))
 
   pub read-value-requires : avp.Need-read-value-requires (avp-calls t) (avp-at t) avp-reads.Post
-  read-value-requires c κs = let h = c .before .before in (omega (arith, avp-start h .pre), (avp-inside h, avp-start h .pre .1 .1 .1))
+  read-value-requires c κs = let h = c .before .before in (omega (arith, avp-start h .pre), (avp-level h, (avp-inside h, avp-start h .pre .1 .1 .1)))
 
   pub sub-pads : avp.Need-sub-pads (avp-calls t) (avp-at t) avp-reads.Post
   sub-pads c = omega (arith, avp-opened (avp-from-pads c))
@@ -115,7 +119,10 @@ module _ (t : ℕ) where
   add-t19 c = omega (arith, avp-inside (avp-from-join c))
 
   pub cast-t28 : avp.Need-cast-t28 (avp-calls t) (avp-at t) avp-reads.Post
-  cast-t28 c = omega arith
+  cast-t28 c = omega (arith, avp-inside (avp-from-join c))
+
+  pub sub-t14 : avp.Need-sub-t14 (avp-calls t) (avp-at t) avp-reads.Post
+  sub-t14 c = omega (arith, avp-start (avp-from-join c) .pre .1 .1 .0)
 
   pub cast-t25 : avp.Need-cast-t25 (avp-calls t) (avp-at t) avp-reads.Post
   cast-t25 c = omega arith

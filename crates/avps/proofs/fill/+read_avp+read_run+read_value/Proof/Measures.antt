@@ -1,6 +1,6 @@
--- What falls from call to call: what is left of the depths that a usize has, and within a level the order of the calls.
+-- What falls from call to call: the levels left, when a group is entered, and within a level the order of the calls.
 -- Assumes nothing.
-use Prim.Native.Nat.{ℕ, _+_, _-_, _*_, _^_, _<_}
+use Prim.Native.Nat.{ℕ, _+_, _*_, _<_}
 use borrow.Fn.Kinds.{In}
 use borrow.Fn.PlainCycle.{Measures, is, falls, and}
 use Rattle.avps.proofs.fill.read_run.Kinds as run-kinds
@@ -11,13 +11,13 @@ use Rattle.avps.proofs.fill.read_value.Kinds as value-kinds
 use Rattle.avps.proofs.fill.read_value.Reads as value-reads
 
 abbrev pub μ-run : Measures 3 run-kinds.ps ℕ
-μ-run κs a = 3 * (2 ^ 64 - a .1 .1 .1 .1 .0) + 2
+μ-run κs a = 3 * a .1 .1 .1 .1 .0 + 2
 
 abbrev pub μ-avp : Measures 3 avp-kinds.ps ℕ
-μ-avp κs a = 3 * (2 ^ 64 - a .1 .1 .1 .1 .1 .0) + 1
+μ-avp κs a = 3 * a .1 .1 .1 .1 .1 .0 + 1
 
 abbrev pub μ-value : Measures 3 value-kinds.ps ℕ
-μ-value κs a = 3 * (2 ^ 64 - a .1 .1 .1 .1 .1 .1 .0)
+μ-value κs a = 3 * a .1 .1 .1 .1 .1 .1 .0
 
 abbrev pub run-at : ℕ → In 3 run-kinds.ps
 run-at t = and 3 run-kinds.ps (is 3 run-kinds.ps μ-run t) run-reads.Pre

@@ -13,6 +13,7 @@ use Rattle.rfc6733.specs.Flags.{join}
 use Rattle.rfc6733.specs.Record.{recordSize, avps}
 use Rattle.attribute.specs.Attributes.{dictionary}
 use Rattle.front.proofs.Fronts.{Turn, turn, stuck}
+use Rattle.avps.specs.Fill.{depthAt}
 use Rattle.avps.proofs.OwnBytes.{OwnBytes, own-bytes}
 use Rattle.avps.proofs.Filling.{Filling, nothing-filled, never-stuck, all-filled, room-for-one, one-filled}
 use Rattle.front.proofs.complete.Reads as complete
@@ -26,12 +27,12 @@ abbrev pub run-calls : ℕ → run.Claims
 run-calls t = (complete.Asked, complete.Learnt, avp-below t, avp-reads.Post, join-flags.Asked, join-flags.Learnt)
 
 abbrev pub Inv-loop : run.InvT-loop
-Inv-loop reading kinds s place depth store₀ at₀ n₀ errors₀ store at n errors =
+Inv-loop reading kinds s place left store₀ at₀ n₀ errors₀ store at n errors =
     let D = dictionary reading in
-    (at ≤ length s) × Filling D (tree (avps D) s) (tree (avps D) (drop at s)) place (place + at) depth n errors store₀ store
+    (at ≤ length s) × Filling D (tree (avps D) s) (tree (avps D) (drop at s)) place (place + at) (depthAt left) n errors store₀ store
 
 abbrev pub μ-loop : run.MeasureT-loop
-μ-loop reading kinds s place depth store₀ at₀ n₀ errors₀ store at n errors = length s - at
+μ-loop reading kinds s place left store₀ at₀ n₀ errors₀ store at n errors = length s - at
 
 module _ (t : ℕ) where
   -- the loop, from a turn of it; and the entry
@@ -69,7 +70,7 @@ module _ (t : ℕ) where
       let next = l .loop .at + k .before .before .a .given .0 .0 .size in
       let size = l .loop .n * recordSize in
       let one = c .read-avp .result in
-      Filling D (tree (avps D) (now (b .args .s))) (tree (avps D) (drop next (now (b .args .s)))) (b .args .place) (b .args .place + next) (b .args .depth)
+      Filling D (tree (avps D) (now (b .args .s))) (tree (avps D) (drop next (now (b .args .s)))) (b .args .place) (b .args .place + next) (depthAt (b .args .left))
       (l .loop .n + one .records) (join (l .loop .errors) (one .errors)) (now (b .args .store))
       (putMid size (length (l .loop .store) - size) (l .loop .store) (c .read-avp .last .1 .1 .1 .1 .1 .1 .0))
   run-filled c =

@@ -24,41 +24,46 @@ abbrev pub value-calls : ℕ → value.Claims
 value-calls t = (table-kind.Asked, table-kind.Learnt, new.Asked, new.Learnt, kind.Asked, kind.Learnt, run-below t, run-reads.Post, number.Asked, number.Learnt)
 
 module _ (t : ℕ) where
+  -- the entry, from the place where the kind of the value is known
+  abbrev value-start : value.After-kind2 (value-calls t) (value-at t) value-reads.Post → value.Start (value-calls t) (value-at t) value-reads.Post
+  value-start c = c .before .before .before .before .before .before
+
   -- the value is that of the dictionary's kind
   value-shown : (c : value.After-kind2 (value-calls t) (value-at t) value-reads.Post)
-      → let b = c .before .before .before .before .before .before in
+      → let b = value-start c in
       let D = dictionary (b .args .reading) in
       Shows (newValue D (D .kind (b .args .code) (b .args .vendor)) (now (b .args .«data»))) (now (b .args .«data»)) (c .before .new .result)
   value-shown c =
-      let b = c .before .before .before .before .before .before in
+      let b = value-start c in
       let a = b .args in
       let k = c .before .before .kind in
-      rw (kind-found (a .reading) (now (a .kinds)) (a .code) (a .vendor) (k .result) (b .pre .1 .1) (k .ensures)) at (c .before .new .ensures)
+      rw (kind-found (a .reading) (now (a .kinds)) (a .code) (a .vendor) (k .result) (b .pre .1 .1 .1) (k .ensures)) at (c .before .new .ensures)
 
   -- a value that is Grouped is entered
   value-group : (c : value.Then1 (value-calls t) (value-at t) value-reads.Post)
-      → let b = c .before .before .before .before .before .before .before in
+      → let b = value-start (c .before) in
       Group (dictionary (b .args .reading)) (b .args .code) (b .args .vendor) (now (b .args .«data»))
   value-group c =
       let k = c .before in
-      let b = k .before .before .before .before .before .before in
+      let b = value-start k in
       a-group (value-shown k) (other-address (b .args .reading) _) (sym (k .kind2 .ensures) ∙ c .if1 .taken)
 
   -- ---- its needs
 
-  pub add-read-run : value.Need-add-read-run (value-calls t) (value-at t) value-reads.Post
-  add-read-run c = omega (arith, c .before .before .before .before .before .before .before .pre .1 .0)
+  pub sub-read-run : value.Need-sub-read-run (value-calls t) (value-at t) value-reads.Post
+  sub-read-run c = omega (arith, value-start (c .before) .pre .1 .0)
 
   pub read-run-requires : value.Need-read-run-requires (value-calls t) (value-at t) value-reads.Post
   read-run-requires c κs =
       let g = value-group (c .before) in
-      let b = c .before .before .before .before .before .before .before .before in
-      (omega (arith, b .pre), (g .tiles-is, (rw (g .entered-is) at (b .pre .1 .0), b .pre .1 .1)))
+      let b = value-start (c .before .before) in
+      (omega (arith, b .pre), (g .tiles-is, (rw (g .entered-is) at (b .pre .1 .1 .0), b .pre .1 .1 .1)))
 
   pub returns : value.Need-returns (value-calls t) (value-at t) value-reads.Post
   returns c =
       let k = c .before .before .before .before in
-      members-written (value-group k) (k .if1 .taken) (c .before .before .read-run .ensures)
+      let b = value-start (k .before) in
+      members-written (value-group k) (k .if1 .taken) (omega (arith, b .pre .1 .0, b .pre .1 .1 .0)) (c .before .before .read-run .ensures)
 
   pub returns-2 : value.Need-returns-2 (value-calls t) (value-at t) value-reads.Post
   returns-2 c =

@@ -1,4 +1,4 @@
--- The cycle of `count_avp` and `count_run` meets its contracts. A run is the AVPs passed so far and what is left: the sums are those of
+-- The cycle of `count_avp` and `count_level` meets its contracts. A run is the AVPs passed so far and what is left: the sums are those of
 -- the AVPs passed, none of which tries a header too deep. An AVP is one header and, where it is a group, its payload's run with one
 -- level less. The measure is two for each level left and one more for a run, so it falls from a run to its AVPs and from a group inwards.
 -- Assumes nothing.
@@ -24,27 +24,27 @@ use Rattle.rfc6733.proofs.Items.{sound}
 use Rattle.rfc6733.proofs.Alone.{some-tried}
 use Rattle.attribute.specs.Attributes.{dictionary}
 use Rattle.front.proofs.Fronts.{Turn, turn, stuck, here}
-use Rattle.count.specs.declared.Counted.the-variants.{Counts}
-use Rattle.count.specs.Counts.{countOf}
-use Rattle.count.proofs.Counts.{Known, was-deep, was-counts, within, Passed, none-passed, one-passed, then-deep, then-ends, one-plain, one-deep, one-group}
+use Rattle.count.specs.declared.Level.the-variants.{Counts}
+use Rattle.count.specs.Counts.{levelOf}
+use Rattle.count.proofs.Levels.{Known, was-deep, was-counts, within, Passed, none-passed, one-passed, then-deep, then-ends, one-plain, one-deep, one-group}
 use Rattle.count.proofs.Lent.{Own, own, Inside, inside}
 use Rattle.attribute.proofs.is_grouped.Reads as is-grouped-reads
 use Rattle.front.proofs.complete.Reads as complete-reads
 use Rattle.avp.proofs.AVP.header_size.Reads as header-size-reads
 use Rattle.count.proofs.count_avp.Reads as count-avp
 use Rattle.count.proofs.count_avp.Kinds as count-avp-kinds
-use Rattle.count.proofs.+count_avp+count_run.Lts-count_avp as count-avp-lts
-use Rattle.count.proofs.count_run.Reads as count-run
-use Rattle.count.proofs.count_run.Kinds as count-run-kinds
-use Rattle.count.proofs.+count_avp+count_run.Lts-count_run as count-run-lts
-use Rattle.count.proofs.+count_avp+count_run.{statement}
-use Rattle.count.proofs.+count_avp+count_run.Tie.{close}
+use Rattle.count.proofs.+count_avp+count_level.Lts-count_avp as count-avp-lts
+use Rattle.count.proofs.count_level.Reads as count-level
+use Rattle.count.proofs.count_level.Kinds as count-level-kinds
+use Rattle.count.proofs.+count_avp+count_level.Lts-count_level as count-level-lts
+use Rattle.count.proofs.+count_avp+count_level.{statement}
+use Rattle.count.proofs.+count_avp+count_level.Tie.{close}
 
 abbrev μ-count-avp : Measures 1 count-avp-kinds.ps ℕ
 μ-count-avp κs a = 2 * a .1 .1 .1 .0
 
-abbrev μ-count-run : Measures 1 count-run-kinds.ps ℕ
-μ-count-run κs a = 2 * a .1 .1 .0 + 1
+abbrev μ-count-level : Measures 1 count-level-kinds.ps ℕ
+μ-count-level κs a = 2 * a .1 .1 .0 + 1
 
 abbrev count-avp-at : ℕ → In 1 count-avp-kinds.ps
 count-avp-at t = and 1 count-avp-kinds.ps (is 1 count-avp-kinds.ps μ-count-avp t) count-avp.Pre
@@ -52,16 +52,16 @@ count-avp-at t = and 1 count-avp-kinds.ps (is 1 count-avp-kinds.ps μ-count-avp 
 abbrev count-avp-below : ℕ → In 1 count-avp-kinds.ps
 count-avp-below t = and 1 count-avp-kinds.ps (falls 1 count-avp-kinds.ps _<_ μ-count-avp t) count-avp.Pre
 
-abbrev count-run-at : ℕ → In 1 count-run-kinds.ps
-count-run-at t = and 1 count-run-kinds.ps (is 1 count-run-kinds.ps μ-count-run t) count-run.Pre
+abbrev count-level-at : ℕ → In 1 count-level-kinds.ps
+count-level-at t = and 1 count-level-kinds.ps (is 1 count-level-kinds.ps μ-count-level t) count-level.Pre
 
-abbrev count-run-below : ℕ → In 1 count-run-kinds.ps
-count-run-below t = and 1 count-run-kinds.ps (falls 1 count-run-kinds.ps _<_ μ-count-run t) count-run.Pre
+abbrev count-level-below : ℕ → In 1 count-level-kinds.ps
+count-level-below t = and 1 count-level-kinds.ps (falls 1 count-level-kinds.ps _<_ μ-count-level t) count-level.Pre
 
 -- ---- `count_avp`
 
 abbrev count-avp-calls : ℕ → count-avp-lts.Claims
-count-avp-calls t = (is-grouped-reads.Asked, is-grouped-reads.Learnt, header-size-reads.Asked, header-size-reads.Learnt, count-run-below t, count-run.Post)
+count-avp-calls t = (is-grouped-reads.Asked, is-grouped-reads.Learnt, header-size-reads.Asked, header-size-reads.Learnt, count-level-below t, count-level.Post)
 
 module _ (t : ℕ) where
   -- the function's entry, and a group entered
@@ -98,9 +98,9 @@ module _ (t : ℕ) where
       → let b = entry (c .before) in Inside (bytes b) (c .header-size .result) (b .args .a .length)
   payload-lent c = let b = entry (c .before) in inside _ _ _ (b .pre .1 .1) (here _ _ (b .pre .1 .0)) (c .header-size .ensures)
 
-  inner-counted : (c : count-avp-lts.After-count-run (count-avp-calls t) (count-avp-at t) count-avp.Post)
-      → let b = entry (c .before .before .before) in c .count-run .result ≡ countOf (b .args .left - 1) (inner b)
-  inner-counted c = rw (payload-lent (c .before .before) .is) at (c .count-run .ensures)
+  inner-counted : (c : count-avp-lts.After-count-level (count-avp-calls t) (count-avp-at t) count-avp.Post)
+      → let b = entry (c .before .before .before) in c .count-level .result ≡ levelOf (b .args .left - 1) (inner b)
+  inner-counted c = rw (payload-lent (c .before .before) .is) at (c .count-level .ensures)
 
   inner-known : (c : count-avp-lts.After-known-told (count-avp-calls t) (count-avp-at t) count-avp.Post)
       → let b = entry (c .before .before .before .before .before .before) in
@@ -112,7 +112,7 @@ module _ (t : ℕ) where
   with-members : (c : count-avp-lts.Joined2 (count-avp-calls t) (count-avp-at t) count-avp.Post)
       → let b = entry (c .before .before .before .before .before .before .before) in
       let k = c .before .before .tiles .given .0 in
-      Counts true (1 + c .if2 .members) (1 + k .1 .1 .0) ≡ countOf (b .args .left) (one b)
+      Counts true (1 + c .if2 .members) (1 + k .1 .1 .0) ≡ levelOf (b .args .left) (one b)
   with-members c =
       let e = c .before .before .before .before .before .before .before in
       let k = c .before .before .tiles .given .0 in
@@ -138,25 +138,25 @@ module _ (t : ℕ) where
       one-deep _ _ (entry e .pre .1 .1) _ (omega arith) (is-grouped e)
       (was-deep _ _ (sym (c .enum-told .given .1) ∙ inner-counted (c .before .before)))
 
--- ---- `count_run`
+-- ---- `count_level`
 
-abbrev count-run-calls : ℕ → count-run-lts.Claims
-count-run-calls t = (complete-reads.Asked, complete-reads.Learnt, count-avp-below t, count-avp.Post)
+abbrev count-level-calls : ℕ → count-level-lts.Claims
+count-level-calls t = (complete-reads.Asked, complete-reads.Learnt, count-avp-below t, count-avp.Post)
 
-abbrev count-run-Inv-loop : count-run-lts.InvT-loop
-count-run-Inv-loop reading s left records₀ tried₀ at₀ records tried at =
+abbrev count-level-Inv-loop : count-level-lts.InvT-loop
+count-level-Inv-loop reading s left records₀ tried₀ at₀ records tried at =
     (at ≤ length s) × Passed left (tree (avps (dictionary reading)) s) (tree (avps (dictionary reading)) (drop at s)) records tried
 
-abbrev count-run-μ-loop : count-run-lts.MeasureT-loop
-count-run-μ-loop reading s left records₀ tried₀ at₀ records tried at = length s - at
+abbrev count-level-μ-loop : count-level-lts.MeasureT-loop
+count-level-μ-loop reading s left records₀ tried₀ at₀ records tried at = length s - at
 
 module _ (t : ℕ) where
   -- the head of the loop, and an AVP found there
   abbrev Loop : Type 0
-  Loop = count-run-lts.At-loop (count-run-calls t) (count-run-at t) count-run.Post count-run-Inv-loop count-run-μ-loop
+  Loop = count-level-lts.At-loop (count-level-calls t) (count-level-at t) count-level.Post count-level-Inv-loop count-level-μ-loop
 
   abbrev Found : Type 0
-  Found = count-run-lts.After-struct-known (count-run-calls t) (count-run-at t) count-run.Post count-run-Inv-loop count-run-μ-loop
+  Found = count-level-lts.After-struct-known (count-level-calls t) (count-level-at t) count-level.Post count-level-Inv-loop count-level-μ-loop
 
   abbrev loop : Found → Loop
   loop c = c .before .before .before .before .before .before .before .before
@@ -172,12 +172,12 @@ module _ (t : ℕ) where
   fits : (l : Loop) {r : Tree} {n k : ℕ} → Passed (l .before .before .args .left) (from l 0) r n k → (n < 2 ^ 64) × (k + tried r < 2 ^ 64)
   fits l p = let b = l .before .before in omega (arith, within (dictionary (b .args .reading)) (run l), b .good .1 .0 .0)
 
-  some-left : (c : count-run-lts.In-loop (count-run-calls t) (count-run-at t) count-run.Post count-run-Inv-loop count-run-μ-loop)
+  some-left : (c : count-level-lts.In-loop (count-level-calls t) (count-level-at t) count-level.Post count-level-Inv-loop count-level-μ-loop)
       → let l = c .before in 0 < length (drop (l .loop .at) (run l))
   some-left c = let l = c .before in omega (arith, length-drop (l .loop .at) (run l))
 
   -- there is no complete AVP at `at`
-  none-there : (c : count-run-lts.After-enum-told (count-run-calls t) (count-run-at t) count-run.Post count-run-Inv-loop count-run-μ-loop)
+  none-there : (c : count-level-lts.After-enum-told (count-level-calls t) (count-level-at t) count-level.Post count-level-Inv-loop count-level-μ-loop)
       → let l = c .before .before .before .before .before .before in from l (l .loop .at) ≡ broken
   none-there c =
       let l = c .before .before .before .before .before .before in
@@ -193,7 +193,7 @@ module _ (t : ℕ) where
       Own (dictionary (l .before .before .args .reading)) (run l) (l .loop .at) (c .before .before .a .given .0 .0)
   own-lent c = own _ _ _ _ (turned c)
 
-  passed : (c : count-run-lts.After-known-told2 (count-run-calls t) (count-run-at t) count-run.Post count-run-Inv-loop count-run-μ-loop)
+  passed : (c : count-level-lts.After-known-told2 (count-level-calls t) (count-level-at t) count-level.Post count-level-Inv-loop count-level-μ-loop)
       → let u = c .before .before .before .before .before in
       let l = loop u in
       let k = c .before .r .given .0 .1 in
@@ -204,47 +204,47 @@ module _ (t : ℕ) where
       one-passed (loop u .loop .inv .1) (own-lent u .split)
       (was-counts _ _ _ _ _ (sym (c .before .r .given .1) ∙ c .before .before .before .count-avp .ensures))
 
-  count-run-returns : count-run-lts.Need-returns (count-run-calls t) (count-run-at t) count-run.Post count-run-Inv-loop count-run-μ-loop
-  count-run-returns c =
+  count-level-returns : count-level-lts.Need-returns (count-level-calls t) (count-level-at t) count-level.Post count-level-Inv-loop count-level-μ-loop
+  count-level-returns c =
       let l = c .before .before in
       let d = some-tried (dictionary (l .before .before .args .reading)) (drop (l .loop .at) (run l)) (some-left (c .before)) in
       then-deep (l .loop .inv .1) (omega arith)
 
-  count-run-add-t17 : count-run-lts.Need-add-t17 (count-run-calls t) (count-run-at t) count-run.Post count-run-Inv-loop count-run-μ-loop
-  count-run-add-t17 c =
+  count-level-add-t17 : count-level-lts.Need-add-t17 (count-level-calls t) (count-level-at t) count-level.Post count-level-Inv-loop count-level-μ-loop
+  count-level-add-t17 c =
       let l = c .before .before .before .before .before .before in
       omega (arith, ap tried (none-there c), fits l (l .loop .inv .1))
 
-  count-run-returns-2 : count-run-lts.Need-returns-2 (count-run-calls t) (count-run-at t) count-run.Post count-run-Inv-loop count-run-μ-loop
-  count-run-returns-2 c =
+  count-level-returns-2 : count-level-lts.Need-returns-2 (count-level-calls t) (count-level-at t) count-level.Post count-level-Inv-loop count-level-μ-loop
+  count-level-returns-2 c =
       let l = c .before .before .before .before .before .before in
       then-ends (l .loop .inv .1) broken (none-there c) (omega arith) (omega arith) (omega arith)
 
-  count-run-count-avp-requires : count-run-lts.Need-count-avp-requires (count-run-calls t) (count-run-at t) count-run.Post count-run-Inv-loop count-run-μ-loop
-  count-run-count-avp-requires c κs = let o = own-lent (c .before) in (omega arith, (o .is, o .exact, omega arith))
+  count-level-count-avp-requires : count-level-lts.Need-count-avp-requires (count-level-calls t) (count-level-at t) count-level.Post count-level-Inv-loop count-level-μ-loop
+  count-level-count-avp-requires c κs = let o = own-lent (c .before) in (omega arith, (o .is, o .exact, omega arith))
 
-  count-run-returns-3 : count-run-lts.Need-returns-3 (count-run-calls t) (count-run-at t) count-run.Post count-run-Inv-loop count-run-μ-loop
-  count-run-returns-3 c =
+  count-level-returns-3 : count-level-lts.Need-returns-3 (count-level-calls t) (count-level-at t) count-level.Post count-level-Inv-loop count-level-μ-loop
+  count-level-returns-3 c =
       let u = c .before .before .before .before in
       let j = own-lent u .split in
       let d = was-deep _ _ (sym (c .enum-told2 .given .1) ∙ c .before .before .count-avp .ensures) in
       then-deep (loop u .loop .inv .1) (omega arith)
 
-  count-run-loop-again : count-run-lts.Need-loop-again (count-run-calls t) (count-run-at t) count-run.Post count-run-Inv-loop count-run-μ-loop
-  count-run-loop-again c = (turned (c .before .before .before .before .before) .fits, passed c)
+  count-level-loop-again : count-level-lts.Need-loop-again (count-level-calls t) (count-level-at t) count-level.Post count-level-Inv-loop count-level-μ-loop
+  count-level-loop-again c = (turned (c .before .before .before .before .before) .fits, passed c)
 
-  count-run-returns-4 : count-run-lts.Need-returns-4 (count-run-calls t) (count-run-at t) count-run.Post count-run-Inv-loop count-run-μ-loop
-  count-run-returns-4 c =
+  count-level-returns-4 : count-level-lts.Need-returns-4 (count-level-calls t) (count-level-at t) count-level.Post count-level-Inv-loop count-level-μ-loop
+  count-level-returns-4 c =
       let l = c .before in
       let F = avps (dictionary (l .before .before .args .reading)) in
       then-ends (l .loop .inv .1) done (ap (tree F) (drop-of-length-le (run l) (c .loop-test .left)) ∙ tree-none F)
       (omega arith) (omega arith) (omega arith)
 
-pub +count-avp+count-run-spec : {M : Type 1} → statement M
-+count-avp+count-run-spec =
+pub +count-avp+count-level-spec : {M : Type 1} → statement M
++count-avp+count-level-spec =
     close
     μ-count-avp
-    μ-count-run
+    μ-count-level
     (λ t.
     count-avp-lts.spec
     (count-avp-calls t)
@@ -265,32 +265,32 @@ pub +count-avp+count-run-spec : {M : Type 1} → statement M
     (λ c. omega (arith, sums-fit t (c .before)))
     (λ c. with-members t (c .before)))
     (λ t.
-    count-run-lts.spec
-    (count-run-calls t)
-    (count-run-at t)
-    count-run.Post
-    count-run-Inv-loop
-    count-run-μ-loop
+    count-level-lts.spec
+    (count-level-calls t)
+    (count-level-at t)
+    count-level.Post
+    count-level-Inv-loop
+    count-level-μ-loop
     (λ c. (omega arith, none-passed _ _))
-    (count-run-returns t)
+    (count-level-returns t)
     (λ c. search needs)
     (λ c. search needs)
     (λ c. search needs)
     (λ c κs. search needs)
     (λ c. search needs)
     (λ c. search needs)
-    (count-run-add-t17 t)
-    (count-run-returns-2 t)
+    (count-level-add-t17 t)
+    (count-level-returns-2 t)
     (λ c. omega (arith, turned t c))
     (λ c. omega (arith, turned t c))
     (λ c. omega (arith, turned t c))
     (λ c. omega (arith, turned t c))
-    (count-run-count-avp-requires t)
+    (count-level-count-avp-requires t)
     (λ c. search needs)
     (λ c. search needs)
-    (count-run-returns-3 t)
+    (count-level-returns-3 t)
     (λ c. omega (arith, fits t (loop t (c .before .before .before .before .before)) (passed t c)))
     (λ c. omega (arith, fits t (loop t (c .before .before .before .before .before)) (passed t c)))
     (λ c. omega (arith, turned t (c .before .before .before .before .before)))
-    (count-run-loop-again t)
-    (count-run-returns-4 t))
+    (count-level-loop-again t)
+    (count-level-returns-4 t))

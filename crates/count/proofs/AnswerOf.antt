@@ -1,0 +1,21 @@
+-- The contract of `count_run` names one outcome: it can be read back from its answer, since an acceptance is told by its two sums and
+-- a refusal by its number and amount.
+-- Assumes nothing.
+use mathlib.Core.Path.{_≡_, refl, sym, ap, _∙_}
+use Rattle.rfc6733.specs.Answer.{Answer, accepted, refused}
+use Rattle.refusal.proofs.Back.{refusal-back, is-back}
+use Rattle.count.specs.declared.Counted.{Counted}
+use Rattle.count.specs.declared.Counted.the-variants.{Fits, Refused}
+use Rattle.count.specs.Counts.{Sums, answerOf}
+
+abbrev back : Answer Sums → Counted
+back (accepted s) = Fits (s .records) (s .tried)
+back (refused number amount) = Refused (refusal-back number amount)
+
+counted-back : (r : Counted) → back (answerOf r) ≡ r
+unfolding answerOf
+counted-back (Fits n k) = refl
+counted-back (Refused r) = ap Refused (is-back r)
+
+pub answer-of-injective : (r r′ : Counted) → answerOf r ≡ answerOf r′ → r ≡ r′
+answer-of-injective r r′ e = sym (counted-back r) ∙ ap back e ∙ counted-back r′
