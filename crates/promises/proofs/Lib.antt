@@ -1,3 +1,7 @@
 pub mod OneOutcome
+mod Calls
+mod Acceptance
+pub mod Refusals
 pub mod Decoder
 pub mod RoundTrip
+pub mod ReadBack

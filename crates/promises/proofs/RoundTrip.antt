@@ -1,6 +1,6 @@
 -- Demand 2, the second half, of the two functions themselves: what `diameter::parse` accepted, in either reading, `writer::write` gives
--- back byte for byte, from the header's fields, the records that the store holds and the message. `Post` is the contract of each as the
--- check reads it from the source; between them stands the round trip of the definition (table/proofs/RoundTrip).
+-- back byte for byte, from the header's fields, the records that the store holds and the message. Between the contracts stands the
+-- round trip of the definition (table/proofs/RoundTrip).
 -- Assumes nothing.
 use Prim.Native.Nat.{ℕ, _*_, _≤_}
 use mathlib.Core.Path.{_≡_, sym, ap, _∙_}
@@ -8,6 +8,7 @@ use mathlib.Core.List.{List, _++_}
 use native.Mathlib.Omega.{arith}
 use lib.ListN.{length, take}
 use lib.Seq.{take-at}
+use contract.Lifetimes.{Lfts}
 use denote.Ref.{now}
 use Rattle.octets.specs.Octets.{Bytes, over}
 use Rattle.rfc6733.specs.Answer.{Answer, accepted}
@@ -28,12 +29,13 @@ use Rattle.header.specs.Parsed.{headerAs}
 use Rattle.diameter.specs.declared.Message.{Message}
 use Rattle.diameter.specs.declared.Decoded.the-variants as decoder
 use Rattle.diameter.specs.Answers.{answerOf, messageAs}
-use Rattle.diameter.proofs.parse.Reads as parse
+use Rattle.writer.specs.declared.Fields.{Fields}
+use Rattle.writer.specs.declared.Written.{Written}
 use Rattle.writer.specs.declared.Written.the-variants as writer
 use Rattle.writer.specs.Answers as writers
 use Rattle.writer.specs.Answers.{fieldsAs}
 use Rattle.writer.proofs.AnswerOf.{answer-of-injective}
-use Rattle.writer.proofs.write.Reads as write
+use Rattle.promises.proofs.Calls.{Slice, Parse, Write}
 
 lawful : (r : Reading) → Lawful (dictionary r)
 unfolding dictionary
@@ -60,31 +62,30 @@ left r limit room s m store rest e is =
       records-are = ap (take (m .records * recordSize)) is ∙ take-at (laid (messageRecords D s)) rest (m .records * recordSize) (omega arith);
     }
 
--- `parse` with arguments a accepted m and left the store at exit s; `write` with arguments b answered r and left the output at exit t.
--- Arguments and exits stand in the order of the parameters: reading, limit, input, store; fields, table, pool, out.
-pub decoded-then-written : (κs : _) (a : _) (m : Message) (s : _) (κs′ : _) (b : _) (r : _) (t : _)
-    → parse.Post κs a (decoder.Accepted m) s → write.Post κs′ b r t → Bytes (now (a .1 .1 .0))
-    → fieldsAs (b .0) ≡ fieldsOf (headerAs (m .header))
-    → now (b .1 .0) ≡ take (m .records * recordSize) (now (s .1 .1 .1 .0))
-    → now (b .1 .1 .0) ≡ now (a .1 .1 .0)
-    → m .length ≤ length (now (b .1 .1 .1 .0))
-    → (r ≡ writer.Accepted (m .length)) × (now (t .1 .1 .1 .0) ≡ over (take (m .length) (now (a .1 .1 .0))) (now (b .1 .1 .1 .0)))
+-- `parse` accepted m and left its records in store′; `write`, given m's header, those records and the input, answered r and left out′.
+-- `Bytes` is true of every slice of bytes; that of a reference is known only where a function has it lent, so a theorem about a call asks it.
+pub decoded-then-written : (κs : Lfts 2) (reading : Reading) (limit : ℕ) (input store : Slice) (m : Message) (store′ : Slice)
+    (λs : Lfts 3) (fields : Fields) (table pool out : Slice) (r : Written) (out′ : Slice)
+    → Parse κs reading limit input store (decoder.Accepted m) store′ → Write λs fields table pool out r out′ → Bytes (now input)
+    → fieldsAs fields ≡ fieldsOf (headerAs (m .header))
+    → now table ≡ take (m .records * recordSize) (now store′)
+    → now pool ≡ now input
+    → m .length ≤ length (now out)
+    → (r ≡ writer.Accepted (m .length)) × (now out′ ≡ over (take (m .length) (now input)) (now out))
 unfolding answerOf stored writers.answerOf output
-decoded-then-written κs a m s κs′ b r t p q bytes fields table pool room =
-    let input = now (a .1 .1 .0) in
-    let out = now (b .1 .1 .1 .0) in
+decoded-then-written κs reading limit input store m store′ λs fields table pool out r out′ p q bytes fields-are table-is pool-is room =
+    let D = dictionary reading in
     let e = sym (p .0) in
-    let l = left (a .0) _ _ input m (now (s .1 .1 .1 .0)) _ e (p .1) in
-    let again = round-trip (dictionary (a .0)) (lawful (a .0)) _ _ input (messageAs m) bytes e (length out) (omega (arith, l .length-is)) in
-    let f : fieldsAs (b .0) ≡ fieldsOf (headerOf input) = fields ∙ ap fieldsOf (sym (l .header-is)) in
-    let tb : now (b .1 .0) ≡ laid (messageRecords (dictionary (a .0)) input) = table ∙ l .records-are in
-    let ok : writers.answerOf r ≡ accepted (m .length) = q .0 ∙ rw (f, tb, pool) (again .accepts ∙ ap accepted (l .length-is)) in
-    let done : r ≡ writer.Accepted (m .length) = answer-of-injective r (writer.Accepted (m .length)) ok in
-    let same : tableBytes (fieldsAs (b .0)) (now (b .1 .0)) (now (b .1 .1 .0)) ≡ take (m .length) input =
-    rw (f, tb, pool) (again .same-bytes ∙ ap (λ (n : ℕ). take n input) (l .length-is))
+    let l = left reading _ _ (now input) m (now store′) _ e (p .1) in
+    let again = round-trip D (lawful reading) _ _ (now input) (messageAs m) bytes e (length (now out)) (omega (arith, l .length-is)) in
+    let f : fieldsAs fields ≡ fieldsOf (headerOf (now input)) = fields-are ∙ ap fieldsOf (sym (l .header-is)) in
+    let t : now table ≡ laid (messageRecords D (now input)) = table-is ∙ l .records-are in
+    let ok : writers.answerOf r ≡ accepted (m .length) = q .0 ∙ rw (f, t, pool-is) (again .accepts ∙ ap accepted (l .length-is)) in
+    let same : tableBytes (fieldsAs fields) (now table) (now pool) ≡ take (m .length) (now input) =
+    rw (f, t, pool-is) (again .same-bytes ∙ ap (λ (n : ℕ). take n (now input)) (l .length-is))
     in (
-      done,
+      answer-of-injective r (writer.Accepted (m .length)) ok,
       q .1
-          ∙ ap (λ (x : Answer ℕ). output x (tableBytes (fieldsAs (b .0)) (now (b .1 .0)) (now (b .1 .1 .0))) out) ok
-          ∙ ap (λ (x : List ℕ). over x out) same,
+          ∙ ap (λ (x : Answer ℕ). output x (tableBytes (fieldsAs fields) (now table) (now pool)) (now out)) ok
+          ∙ ap (λ (x : List ℕ). over x (now out)) same,
     )

@@ -1,0 +1,87 @@
+-- Demand 2, the first half, of the two functions themselves: what `writer::write` wrote, `diameter::parse` accepts in the sawp reading,
+-- with the same codes, flags, vendors, data and padding at the top level as the table's records of depth 1. Between the contracts stands
+-- the reading back of the definition (table/proofs/ReadBack).
+-- Assumes nothing.
+use Prim.Native.Nat.{ℕ, _≤_}
+use mathlib.Core.Path.{_≡_, sym, ap, _∙_}
+use mathlib.Core.Bool.{true}
+use mathlib.Core.List.{List}
+use lib.ListN.{length, take, drop}
+use lib.Seq.{take-at}
+use borrow.Author.Tests.{le-leb, le-ltb}
+use contract.Lifetimes.{Lfts}
+use denote.Ref.{now}
+use Rattle.octets.specs.Octets.{Bytes, over}
+use Rattle.octets.specs.Run.{tiles, deepest}
+use Rattle.rfc6733.specs.Answer.{accepted, passes}
+use Rattle.rfc6733.specs.Header.{headerRefusals}
+use Rattle.rfc6733.specs.Dictionary.{Dictionary, sawp}
+use Rattle.rfc6733.specs.Decoder.{capacity, messageRun, messageRecords, messageRefusals, messageOf, decoded}
+use Rattle.rfc6733.specs.Forest.{forest}
+use Rattle.rfc6733.specs.Writer.{tableOf, tableBytes, output}
+use Rattle.rfc6733.proofs.Answers.{accepts, passes-append}
+use Rattle.table.specs.Tops.{tops, topRecords, roots, ofDepth}
+use Rattle.table.proofs.Written.{written-writable}
+use Rattle.table.proofs.ReadBack.{sawp-read-back}
+use Rattle.attribute.specs.declared.Reading.the-variants.{Sawp}
+use Rattle.attribute.specs.Attributes.{dictionary}
+use Rattle.diameter.specs.declared.Message.{Message}
+use Rattle.diameter.specs.declared.Decoded.{Decoded}
+use Rattle.diameter.specs.declared.Decoded.the-variants as decoder
+use Rattle.writer.specs.declared.Fields.{Fields}
+use Rattle.writer.specs.declared.Written.the-variants as writer
+use Rattle.writer.specs.Answers.{fieldsAs, answerOf}
+use Rattle.promises.proofs.Calls.{Slice, Parse, Write}
+use Rattle.promises.proofs.Acceptance.{accepted-as}
+
+-- where no refusal's test holds
+is-accepted : (D : Dictionary) (limit room : ℕ) (s : List ℕ) → 1 ≤ limit → limit ≤ 64 → passes (headerRefusals s) ≡ true
+    → tiles (messageRun D s) ≡ true → deepest (messageRun D s) ≤ limit → length (messageRecords D s) ≤ room
+    → decoded D limit room s ≡ accepted (messageOf D s)
+unfolding decoded messageRefusals
+is-accepted D limit room s low high header tiled shallow fits =
+    accepts (messageRefusals D limit room s) (messageOf D s)
+    (simp (
+      le-leb 1 limit low,
+      le-leb limit 64 high,
+      passes-append,
+      header,
+      tiled,
+      le-ltb limit (deepest (messageRun D s)) shallow,
+      le-ltb room (length (messageRecords D s)) fits,
+    ))
+
+-- r accepts the n bytes of the input, in which the records of depth 1 of the table stand
+pub record ReadAs (input table pool : List ℕ) (n : ℕ) (r : Decoded) : Type 0 where
+  pub message : Message
+  pub is-accepted : r ≡ decoder.Accepted message
+  pub length-is : message .length ≡ n
+  pub same-tops : tops (messageRun sawp input) ≡ topRecords pool (forest (tableOf table))
+  pub depth-one : roots (forest (tableOf table)) ≡ ofDepth 1 (tableOf table)
+
+-- `write` wrote n bytes to the front of out′, and these are the input of `parse`, whose limit and store hold what they read as.
+-- `Bytes` is asked as in RoundTrip.
+pub written-then-decoded : (κs : Lfts 3) (fields : Fields) (table pool out : Slice) (n : ℕ) (out′ : Slice)
+    (λs : Lfts 2) (limit : ℕ) (input store : Slice) (r : Decoded) (store′ : Slice)
+    → Write κs fields table pool out (writer.Accepted n) out′ → Parse λs Sawp limit input store r store′ → Bytes (now table)
+    → now input ≡ take n (now out′)
+    → 1 ≤ limit → limit ≤ 64 → deepest (messageRun sawp (now input)) ≤ limit
+    → length (messageRecords sawp (now input)) ≤ capacity (length (now store))
+    → ReadAs (now input) (now table) (now pool) n r
+unfolding over answerOf output dictionary messageOf
+written-then-decoded κs fields table pool out n out′ λs limit input store r store′ p q bytes input-is low high shallow fits =
+    let f = fieldsAs fields in
+    let s = tableBytes f (now table) (now pool) in
+    let e = sym (p .0) in
+    let w = written-writable f (now table) (now pool) (length (now out)) n e in
+    let same : now input ≡ s = input-is ∙ ap (take n) (p .1) ∙ take-at s (drop (length s) (now out)) n (w .1) in
+    let b = sawp-read-back f (now table) (now pool) (length (now out)) n bytes e in
+    let yes = is-accepted sawp limit (capacity (length (now store))) (now input) low high (rw same (b .header)) (rw same (b .tiled)) shallow fits in
+    let a = accepted-as r (messageOf sawp (now input)) (q .0 ∙ yes) in
+    record {
+      message = a .message;
+      is-accepted = a .is-accepted;
+      length-is = a .length-is ∙ rw same (b .stated);
+      same-tops = rw same (b .same-tops);
+      depth-one = b .depth-one;
+    }

@@ -1,0 +1,80 @@
+-- Demand 1 of the functions themselves: a refusal changes no lent byte. Each contract says that the store or the output is what the
+-- definition leaves of it (`stored`, `output`), and that is what was lent wherever the answer is a refusal.
+-- Assumes nothing.
+use Prim.Native.Nat.{ℕ, _≤_}
+use mathlib.Core.Path.{_≡_, refl, _∙_}
+use mathlib.Core.Bool.{Bool}
+use mathlib.Core.List.{List}
+use native.Mathlib.Omega.{arith}
+use lib.ListN.{getD}
+use contract.Lifetimes.{Lfts}
+use denote.Ref.{now}
+use Rattle.rfc6733.specs.Answer.{Answer, accepted, refused}
+use Rattle.rfc6733.specs.Record.{Record}
+use Rattle.rfc6733.specs.Decoder.{Counts, Message, stored}
+use Rattle.rfc6733.specs.Writer.{output}
+use Rattle.refusal.specs.declared.Refusal.{Refusal}
+use Rattle.attribute.specs.declared.Reading.{Reading}
+use Rattle.avps.specs.declared.Filled.the-variants as avps
+use Rattle.avps.specs.Answers as avps-answers
+use Rattle.diameter.specs.declared.Decoded.the-variants as diameter
+use Rattle.diameter.specs.Answers as diameter-answers
+use Rattle.writer.specs.declared.Fields.{Fields}
+use Rattle.writer.specs.declared.Written.the-variants as writer
+use Rattle.writer.specs.Answers as writer-answers
+use Rattle.tandrekily.specs.Results.{messageResult, avpResult, writtenResult}
+use Rattle.promises.proofs.Calls.{Slice, Parse, ParseAvp, Write, TandrekilyMessage, TandrekilyAvp, TandrekilyWrite}
+
+-- ---- in Rattle: the answer is a refusal
+
+pub parse-refusal-changes-nothing : (κs : Lfts 2) (reading : Reading) (limit : ℕ) (input store : Slice) (why : Refusal) (store′ : Slice)
+    → Parse κs reading limit input store (diameter.Refused why) store′ → now store′ ≡ now store
+unfolding diameter-answers.answerOf stored
+parse-refusal-changes-nothing κs reading limit input store why store′ p = p .1
+
+pub parse-avp-refusal-changes-nothing : (κs : Lfts 2) (reading : Reading) (limit : ℕ) (input store : Slice) (why : Refusal) (store′ : Slice)
+    → ParseAvp κs reading limit input store (avps.Refused why) store′ → now store′ ≡ now store
+unfolding avps-answers.answerOf stored
+parse-avp-refusal-changes-nothing κs reading limit input store why store′ p = p .1
+
+pub write-refusal-changes-nothing : (κs : Lfts 3) (fields : Fields) (table pool out : Slice) (why : Refusal) (out′ : Slice)
+    → Write κs fields table pool out (writer.Refused why) out′ → now out′ ≡ now out
+unfolding writer-answers.answerOf output
+write-refusal-changes-nothing κs fields table pool out why out′ p = p .1
+
+-- ---- in the library: the number, the first of the result, is not 0
+
+abbrev pub number : List ℕ → ℕ
+number result = getD result 0 0
+
+-- An acceptance is shown by the number 0 and a refusal leaves what was lent, so another number is shown only where it is left.
+lent-unless-0 : {A : Type 0} (shown left : Answer A → List ℕ) (lent : List ℕ)
+    → ((x : A) → number (shown (accepted x)) ≡ 0) → ((n a : ℕ) → left (refused n a) ≡ lent)
+    → (x : Answer A) → 1 ≤ number (shown x) → left x ≡ lent
+lent-unless-0 shown left lent zero same (accepted x) h = let z = zero x in absurd (omega arith)
+lent-unless-0 shown left lent zero same (refused n a) h = same n a
+
+message-store : (x : Answer Message) (rs : List Record) (store : List ℕ) → 1 ≤ number (messageResult x) → stored x rs store ≡ store
+unfolding messageResult stored
+message-store x rs store = lent-unless-0 messageResult (λ y. stored y rs store) store (λ m. refl) (λ n a. refl) x
+
+avp-store : (x : Answer Counts) (rs : List Record) (store : List ℕ) → 1 ≤ number (avpResult x) → stored x rs store ≡ store
+unfolding avpResult stored
+avp-store x rs store = lent-unless-0 avpResult (λ y. stored y rs store) store (λ c. refl) (λ n a. refl) x
+
+written-out : (x : Answer ℕ) (message out : List ℕ) → 1 ≤ number (writtenResult x) → output x message out ≡ out
+unfolding writtenResult output
+written-out x message out = lent-unless-0 writtenResult (λ y. output y message out) out (λ total. refl) (λ n a. refl) x
+
+pub tandrekily-message-refusal-changes-nothing : (κs : Lfts 3) (rfc : Bool) (limit : ℕ) (input store result store′ result′ : Slice)
+    → TandrekilyMessage κs rfc limit input store result store′ result′ → 1 ≤ number (now result′) → now store′ ≡ now store
+tandrekily-message-refusal-changes-nothing κs rfc limit input store result store′ result′ p h = p .1 ∙ message-store _ _ _ (rw (p .0) at h)
+
+pub tandrekily-avp-refusal-changes-nothing : (κs : Lfts 3) (rfc : Bool) (limit : ℕ) (input store result store′ result′ : Slice)
+    → TandrekilyAvp κs rfc limit input store result store′ result′ → 1 ≤ number (now result′) → now store′ ≡ now store
+tandrekily-avp-refusal-changes-nothing κs rfc limit input store result store′ result′ p h = p .1 ∙ avp-store _ _ _ (rw (p .0) at h)
+
+pub tandrekily-write-refusal-changes-nothing : (κs : Lfts 4) (flags code appId hopId endId : ℕ) (table pool out result out′ result′ : Slice)
+    → TandrekilyWrite κs flags code appId hopId endId table pool out result out′ result′ → 1 ≤ number (now result′) → now out′ ≡ now out
+tandrekily-write-refusal-changes-nothing κs flags code appId hopId endId table pool out result out′ result′ p h =
+    p .1 ∙ written-out _ _ _ (rw (p .0) at h)
