@@ -1,6 +1,6 @@
--- Demand 2, the first half, of the two functions themselves: what `writer::write` wrote, `diameter::parse` accepts in the sawp reading,
--- with the same codes, flags, vendors, data and padding at the top level as the table's records of depth 1. Between the contracts stands
--- the reading back of the definition (table/proofs/ReadBack).
+-- What `writer::write` wrote, `diameter::parse` accepts in the sawp reading, with the same codes, flags, vendors, data and padding at the
+-- top level as the table's records of depth 1 (document 01, "Numbers returned", the writer). Between the contracts stands the reading
+-- back of the definition (table/proofs/ReadBack).
 -- Assumes nothing.
 use Prim.Native.Nat.{ℕ, _≤_}
 use mathlib.Core.Path.{_≡_, sym, ap, _∙_}
