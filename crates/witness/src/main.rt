@@ -1,0 +1,14 @@
+// Answers of the public functions that no other program calls, in lines of words and decimal numbers. The lines that it must write
+// are made by oracle/witness.py from RFC 6733's text and the Rust's, so they are a second witness to names, kinds, flags and numbers.
+mod bits;
+mod codes;
+mod library;
+mod numbers;
+mod print;
+
+fn main() {
+    codes::lines();
+    bits::lines();
+    numbers::lines();
+    library::lines();
+}

@@ -1,0 +1,56 @@
+// Lines on standard output: a label, then words and numbers, each after a space.
+use tandrekily::RESULT;
+
+const OUT: i32 = 1;
+
+pub(super) fn label(name: &[u8]) {
+    io::write_all(OUT, name);
+}
+
+pub(super) fn word(w: &[u8]) {
+    io::write_all(OUT, b" ");
+    io::write_all(OUT, w);
+}
+
+pub(super) fn number(n: u64) {
+    io::write_all(OUT, b" ");
+    io::print_decimal(OUT, n);
+}
+
+pub(super) fn bit(b: bool) {
+    if b {
+        number(1);
+    } else {
+        number(0);
+    }
+}
+
+// The magnitude of the least number is one more than that of the largest, so one is put aside before the sign is turned.
+pub(super) fn signed(n: i64) {
+    if n < 0 {
+        io::write_all(OUT, b" -");
+        io::print_decimal(OUT, (-1 - n) as u64 + 1);
+        return;
+    }
+    number(n as u64);
+}
+
+pub(super) fn result(all: &[u64; RESULT]) {
+    for i in 0..RESULT {
+        number(all[i]);
+    }
+}
+
+fn wide(x: u8) -> u64 {
+    x as u64
+}
+
+pub(super) fn bytes(all: &[u8]) {
+    for i in 0..all.len() {
+        number(wide(all[i]));
+    }
+}
+
+pub(super) fn end() {
+    io::write_all(OUT, b"\n");
+}

@@ -1,0 +1,143 @@
+"""Makes crates/witness/stdout, what crates/witness must write: python3 oracle/witness.py RFC RUST > crates/witness/stdout
+
+RFC is the text of RFC 6733 (rfc-editor.org/rfc/rfc6733.txt): its table of section 4.5 gives codes, names and data types, and its
+pictures in sections 3 and 4.1 the flag bits. RUST is sawp-diameter/src/lib.rs: its enums give the names of codes, the numbers of kinds and
+its own kinds. Document 01 gives the rest: the RFC's departures from it (a vendor of another's, the refusals), and, by
+oracle/model.py, what is read and written of P8. Nothing is taken from our code.
+"""
+import calendar
+import re
+import sys
+
+import model
+
+CODES, VENDOR, LENT = 513, 10415, 0xA5
+P8 = bytes.fromhex("01000024" + "00" * 16 + "0000010c0000000d000007d100000000")
+RECORD = bytes.fromhex("0000010c0000000d000000000000001c01040203000000000000000000000" + "7d1")
+REFUSALS = {
+    "Incomplete": 12, "NotVersion": 0, "BadLength": 0, "NotTiled": 0, "TooDeep": 0, "NoRecords": 12,
+    "BadDepth": 0, "BadHeader": 0, "BadTable": 12, "TooLong": 0, "NoRoom": 12,
+}
+TEXTS = ["", "41", "c1bf", "c280", "e09fbf", "ed9fbf", "eda080", "f48fbfbf", "f4908080"]
+
+
+def rfc_table(text):
+    """Code: (name, data type), of section 4.5. A name goes on in the next line, which is indented more."""
+    section = text[text.rindex("4.5.  Diameter Base Protocol AVPs") : text.rindex("5.  Diameter Peers")]
+    rows = []
+    for indent, name, code, kind in re.findall(r"^( {3,6})([A-Z-][A-Za-z-]*) +(?:(\d+) +[\d.]+ +(\w+) *)?\|", section, re.M):
+        if len(indent) == 3:
+            rows.append(["", "", ""])
+        rows[-1] = [was + more for was, more in zip(rows[-1], (name, code, kind))]
+    return {int(code): (name, kind.replace("Diam", "Diameter").replace("Ident", "Identity")) for name, code, kind in rows}
+
+
+def rust_names(text):
+    return {name: int(code) for name, code in re.findall(r"(\w+) = (\d+),", re.search(r"enum AttributeCode \{(.*?)\}", text, re.S)[1])}
+
+
+def rust_kinds(text):
+    """The kinds in order, and the kind that `Value::new` gives each name: the names of an arm stand before its values."""
+    order = re.findall(r"^    (\w+)\(", re.search(r"enum Value \{(.*?)\n\}", text, re.S)[1], re.M)
+    kinds, arm = {}, []
+    for name, kind in re.findall(r"AttributeCode::(\w+)|Value::(\w+)\(", text[text.index("impl Value") : text.index("pub struct AVP")]):
+        if name:
+            arm = [name] if arm and arm[-1] in kinds else arm + [name]
+        elif kind != "Unhandled":
+            kinds.update(dict.fromkeys(arm, kind))
+    return order, kinds
+
+
+def bits_of(text, picture):
+    """The place of each named bit in a byte, 7 the highest, from a picture such as |R P E T r r r r|."""
+    assert picture in text
+    return {name: 7 - at for at, name in enumerate(picture.strip("|").split()) if name != "r"}
+
+
+def line(*words):
+    print(*(int(word) if isinstance(word, bool) else word for word in words))
+
+
+def codes(rfc_text, rust_text):
+    rfc, names = rfc_table(rfc_text), rust_names(rust_text)
+    order, rust_kind = rust_kinds(rust_text)
+    hyphens = {name.replace("-", ""): name for name, _ in rfc.values()}
+    sawp = {code: (hyphens[name], rust_kind[name]) for name, code in names.items() if name != "Unknown"}
+    for code in range(CODES):
+        for label, table, vendors in (("new", sawp, None), ("sawp", sawp, True), ("rfc", rfc, False)):
+            name, kind = table.get(code, ("Unknown", "Unhandled"))
+            if vendors is None:
+                line(label, code, name)
+                continue
+            # The RFC's codes are those of vendor 0; the Rust asks no vendor.
+            kinds = [kind, kind if vendors else "Unhandled"]
+            line(label, code, name, *map(order.index, kinds), *(k == "Grouped" for k in kinds))
+
+
+def flags(rfc_text):
+    header, avp = bits_of(rfc_text, "|R P E T r r r r|"), bits_of(rfc_text, "|V M P r r r r r|")
+    for byte in range(256):
+        line("header", byte, *(byte >> header[b] & 1 for b in "RPET"), byte & 0b1111)
+        vendor, size = byte >> avp["V"] & 1, 12 if byte >> avp["V"] & 1 else 8
+        line("avp", byte, vendor, vendor, byte >> avp["M"] & 1, byte >> avp["P"] & 1, byte & 0b11111, size, size)
+
+
+def numbers():
+    for length in (0, 19, 20, 36, 2**24 - 1):
+        line("stated", length, max(length - 20, 0))
+    for length, available in ((0, 0), (20, 8), (20, 20), (20, 21)):
+        line("length", length, available, *(["absent", length - available] if available < length else ["enough"]))
+    for length in range(6):
+        line("padding", length, -length % 4)
+    for bits in (0, 1, 2**31 - 1, 2**31, 2208988800, 2**32 - 1):
+        unix = bits + calendar.timegm((1900, 1, 1, 0, 0, 0))
+        line("signed", bits, int.from_bytes(bits.to_bytes(4, "big"), "big", signed=True), unix, unix)
+    for number, (name, amount) in enumerate(REFUSALS.items(), 1):
+        line("refusal", name, number, amount)
+
+
+def answered(ask, size, head):
+    """The thirteen numbers of a result, and what lent memory of that size holds afterwards."""
+    lent = bytes([LENT]) * size
+    try:
+        errors, records, tried, length, memory = ask()
+    except model.Refused as r:
+        return [r.number, r.amount] + [0] * 11, lent
+    fields = [model.be(head[a:b]) for a, b in ((0, 1), (1, 4), (4, 5), (5, 8), (8, 12), (12, 16), (16, 20))] if head else [0] * 7
+    return [0, 0, errors, records, tried, length] + fields, memory
+
+
+def library():
+    def read(ask, reading, limit, size, data):
+        errors, records, tried, length = ask(("sawp", "rfc")[reading], limit, size // 32, data)
+        return errors, len(records), tried, length, b"".join(records).ljust(size, b"\0")
+
+    def show(label, words, result):
+        line(label, *words, *result[0], "leaves", *result[1])
+
+    for rfc, limit, size in ((0, 64, 37), (1, 64, 37), (1, 64, 31), (1, 0, 37)):
+        show("message", (rfc, limit), answered(lambda: read(model.message, rfc, limit, size, P8), size, P8))
+    for rfc, limit in ((0, 64), (1, 1), (1, 65)):
+        show("one-avp", (rfc, limit), answered(lambda: read(model.avp_alone, rfc, limit, 37, P8[20:]), 37, None))
+    line("header-alone", *answered(lambda: (model.header_alone(P8)[0], 0, 0, 20, b""), 0, P8)[0])
+    ids = b"".join(n.to_bytes(4, "big") for n in (257, 1, 2, 3, len(RECORD)))
+    for size in (40, 35):
+        def write():
+            out = model.written(bytes([0x80]) + ids + RECORD + P8, size)
+            return 0, 0, 0, len(out), out.ljust(size, bytes([LENT]))
+
+        show("write", (), answered(write, size, None))
+    for text in map(bytes.fromhex, TEXTS):
+        line("utf8", model.well_formed(text), *text)
+
+
+def main():
+    rfc_text, rust_text = (open(path, encoding="utf-8").read() for path in sys.argv[1:])
+    codes(rfc_text, rust_text)
+    flags(rfc_text)
+    numbers()
+    library()
+
+
+if __name__ == "__main__":
+    main()
