@@ -1,7 +1,7 @@
 // The AVP at the front of a slice, and whether AVPs tile.
 // This crate knows an AVP's header and padding, and nothing of what its data mean.
 use avp::AVP;
-use octets::Available;
+use octets::at_hand::Available;
 use refusal::Refusal;
 ghost use Prim.Native.Nat.{_≤_};
 ghost use mathlib.Core.Path.{_≡_};
@@ -54,7 +54,7 @@ fn refusal(s: &[u8]) -> Refusal
     if length < AVP::PRE_LENGTH_SIZE {
         return Refusal::BadLength;
     }
-    if let Available::Absent(absent) = octets::length(length, available) {
+    if let Available::Absent(absent) = octets::at_hand::length(length, available) {
         return Refusal::Incomplete(absent);
     }
     let header_size = AVP::header_size_of(s[4]);

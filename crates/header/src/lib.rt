@@ -1,7 +1,7 @@
 // The Diameter header: its constants, its flag questions, and reading it alone.
 // This crate knows the header's 20 bytes, and nothing of AVPs.
 use flags::ErrorFlags;
-use octets::Available;
+use octets::at_hand::Available;
 use refusal::Refusal;
 ghost use mathlib.Core.Path.{_≡_};
 ghost use mathlib.Core.Bool.{not};
@@ -146,7 +146,7 @@ impl Header {
         if stated < Self::PRE_LENGTH_SIZE {
             return Parsed::Refused(Refusal::BadLength);
         }
-        if let Available::Absent(absent) = octets::length(stated, available) {
+        if let Available::Absent(absent) = octets::at_hand::length(stated, available) {
             return Parsed::Refused(Refusal::Incomplete(absent));
         }
         if stated < Self::SIZE {

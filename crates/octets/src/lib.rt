@@ -1,9 +1,7 @@
 // Numbers in bytes, the highest byte first: read and written by value, so that no caller has to check a length first.
 // This crate knows nothing of Diameter.
-mod at_hand;
+pub mod at_hand;
 
-pub use at_hand::Available;
-pub use at_hand::length;
 ghost use mathlib.Core.Path.{_≡_};
 ghost use mathlib.Core.List.{[], _∷_};
 ghost use Rattle.octets.specs.Octets.{octets, Reads};

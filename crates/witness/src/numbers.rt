@@ -1,8 +1,8 @@
 // Lengths, padding, signed numbers and refusals.
 use crate::print;
 use avp::AVP;
-use header::Available;
 use header::Header;
+use octets::at_hand::Available;
 use refusal::Refusal;
 
 // How many bytes of AVPs a header that states so many bytes has.
@@ -26,7 +26,7 @@ fn at_hand(length: usize, available: usize) {
     print::label(b"length");
     print::number(length as u64);
     print::number(available as u64);
-    match header::length(length, available) {
+    match octets::at_hand::length(length, available) {
         Available::Enough => print::word(b"enough"),
         Available::Absent(n) => {
             print::word(b"absent");
