@@ -60,6 +60,7 @@ fn fill_store(reading: Reading, s: &[u8], place: usize, store: &mut [u8]) -> u8
 }
 
 /// Reads the run `s`, which stands at `place` of the input, into records in `store`. Headers may be tried on `limit` levels.
+/// A run that ends past the last place that a record can have is TooLong.
 pub fn parse_avps(reading: Reading, limit: usize, s: &[u8], place: u32, store: &mut [u8]) -> Filled
     ensures answer { λ r. ⌜ answerOf r ≡ runAnswer (dictionary reading) limit (capacity (length (now (store .entry)))) place (now (s .entry)) ⌝ }
     ensures store { λ r. ⌜ now (store .exit) ≡ stored (answerOf r) (runRecords (dictionary reading) place (now (s .entry))) (now (store .entry)) ⌝ }

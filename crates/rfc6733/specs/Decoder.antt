@@ -49,19 +49,21 @@ capacity n = n / recordSize
 unfoldable pub runRecords : Dictionary → ℕ → List ℕ → List Record
 runRecords D place s = records D place 1 (tree (avps D) s)
 
+-- what its acceptance returns
 unfoldable pub runCounts : Dictionary → ℕ → List ℕ → Counts
 runCounts D place s =
     let t = tree (avps D) s in
     record { errors = errors D t; records = length (runRecords D place s); tried = tried t; length = length s }
 
+-- it is refused where it does not tile
 abbrev pub tileRefusals : Tree → List Refusal
 tileRefusals t = refuse (not (tiles t)) notTiled 0 ∷ []
 
--- a header is tried deeper than the limit
+-- where it tries a header deeper than the limit
 abbrev pub depthRefusals : ℕ → Tree → List Refusal
 depthRefusals limit t = refuse (ltb limit (deepest t)) tooDeep 0 ∷ []
 
--- there are more records than there is room for
+-- and where it has more records than there is room for
 abbrev pub roomRefusals : ℕ → List Record → List Refusal
 roomRefusals room rs = refuse (ltb room (length rs)) noRecords (length rs) ∷ []
 

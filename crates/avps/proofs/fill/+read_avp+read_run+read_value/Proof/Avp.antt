@@ -4,8 +4,6 @@ use Prim.Native.Nat.{ℕ, _+_, _-_, _≤_, _<_}
 use native.Mathlib.Omega.{arith}
 use lib.ListN.{length, take, drop}
 use denote.Ref.{now}
-use borrow.Author.Needs.{needs}
-use borrow.Fn.PlainCycle.{is, and}
 use Rattle.octets.proofs.Numbers.{be-small}
 use Rattle.rfc6733.specs.Record.{recordSize}
 use Rattle.rfc6733.specs.Entered.{entered}

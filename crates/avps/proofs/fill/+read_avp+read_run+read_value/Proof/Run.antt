@@ -5,8 +5,6 @@ use mathlib.Core.Path.{sym, _∙_}
 use native.Mathlib.Omega.{arith}
 use lib.ListN.{length, take, drop}
 use denote.Ref.{now}
-use borrow.Author.Needs.{needs}
-use borrow.Fn.PlainCycle.{and}
 use borrow.Rule.Slice.PartMut.{putMid}
 use Rattle.octets.specs.Run.{tree}
 use Rattle.rfc6733.specs.Flags.{join}

@@ -4,9 +4,6 @@ use Prim.Native.Nat.{ℕ}
 use mathlib.Core.Path.{sym, _∙_}
 use native.Mathlib.Omega.{arith}
 use denote.Ref.{now}
-use borrow.Author.Needs.{needs}
-use borrow.Fn.PlainCycle.{is}
-use Rattle.rfc6733.specs.Entered.{entered}
 use Rattle.attribute.specs.Attributes.{dictionary}
 use Rattle.value.specs.Values.{Shows, newValue}
 use Rattle.avps.proofs.OtherKinds.{other-address}
