@@ -1,9 +1,9 @@
-"""Makes crates/witness/stdout, what crates/witness must write: python3 oracle/witness.py RFC RUST > crates/witness/stdout
+"""Makes what crates/witness must write: python3 oracle/witness.py RFC RUST > crates/witness/stdout
 
 RFC is the text of RFC 6733 (rfc-editor.org/rfc/rfc6733.txt): its table of section 4.5 gives codes, names and data types, and its
-pictures in sections 3 and 4.1 the flag bits. RUST is sawp-diameter/src/lib.rs: its enums give the names of codes, the numbers of kinds and
-its own kinds. Document 01 gives the rest: the RFC's departures from it (a vendor of another's, the refusals), and, by
-oracle/model.py, what is read and written of P8. Nothing is taken from our code.
+pictures in sections 3 and 4.1 the flag bits. RUST is sawp-diameter/src/lib.rs: its enums give the names of its codes and the numbers of
+the kinds, and `Value::new` the kind of each name. Document 01 gives the rest: that in the RFC reading another vendor's AVP is
+Unhandled, the refusals, and, by oracle/model.py, what is read and written of P8. Nothing is taken from our code.
 """
 import calendar
 import re
@@ -11,14 +11,11 @@ import sys
 
 import model
 
-CODES, VENDOR, LENT = 513, 10415, 0xA5
+CODES, STORE, LENT = 513, 37, 0xA5
 P8 = bytes.fromhex("01000024" + "00" * 16 + "0000010c0000000d000007d100000000")
-RECORD = bytes.fromhex("0000010c0000000d000000000000001c01040203000000000000000000000" + "7d1")
-REFUSALS = {
-    "Incomplete": 12, "NotVersion": 0, "BadLength": 0, "NotTiled": 0, "TooDeep": 0, "NoRecords": 12,
-    "BadDepth": 0, "BadHeader": 0, "BadTable": 12, "TooLong": 0, "NoRoom": 12,
-}
-TEXTS = ["", "41", "c1bf", "c280", "e09fbf", "ed9fbf", "eda080", "f48fbfbf", "f4908080"]
+RECORD = bytes.fromhex("0000010c0000000d000000000000001c" + "0104020300000000" + "00000000000007d1")
+# What each refusal returns, by its number from 1 on, where it was made with 12.
+AMOUNTS = [12, 0, 0, 0, 0, 12, 0, 0, 12, 0, 12]
 
 
 def rfc_table(text):
@@ -49,9 +46,12 @@ def rust_kinds(text):
 
 
 def bits_of(text, picture):
-    """The place of each named bit in a byte, 7 the highest, from a picture such as |R P E T r r r r|."""
+    """The mask of each named bit, the highest first, and of the reserved bits, from a picture such as |R P E T r r r r|."""
     assert picture in text
-    return {name: 7 - at for at, name in enumerate(picture.strip("|").split()) if name != "r"}
+    masks = {}
+    for at, name in enumerate(picture.strip("|").split()):
+        masks[name] = masks.get(name, 0) | 0x80 >> at
+    return masks
 
 
 def line(*words):
@@ -59,41 +59,38 @@ def line(*words):
 
 
 def codes(rfc_text, rust_text):
-    rfc, names = rfc_table(rfc_text), rust_names(rust_text)
-    order, rust_kind = rust_kinds(rust_text)
+    rfc, (order, rust_kind) = rfc_table(rfc_text), rust_kinds(rust_text)
     hyphens = {name.replace("-", ""): name for name, _ in rfc.values()}
-    sawp = {code: (hyphens[name], rust_kind[name]) for name, code in names.items() if name != "Unknown"}
+    sawp = {code: (hyphens[name], rust_kind[name]) for name, code in rust_names(rust_text).items() if name != "Unknown"}
+    none = ("Unknown", "Unhandled")
     for code in range(CODES):
-        for label, table, vendors in (("new", sawp, None), ("sawp", sawp, True), ("rfc", rfc, False)):
-            name, kind = table.get(code, ("Unknown", "Unhandled"))
-            if vendors is None:
-                line(label, code, name)
-                continue
-            # The RFC's codes are those of vendor 0; the Rust asks no vendor.
-            kinds = [kind, kind if vendors else "Unhandled"]
+        line("new", code, sawp.get(code, none)[0])
+        for label, table in (("sawp", sawp), ("rfc", rfc)):
+            name, kind = table.get(code, none)
+            # without a vendor and with one, which the Rust does not look at
+            kinds = [kind, kind if label == "sawp" else "Unhandled"]
             line(label, code, name, *map(order.index, kinds), *(k == "Grouped" for k in kinds))
 
 
 def flags(rfc_text):
     header, avp = bits_of(rfc_text, "|R P E T r r r r|"), bits_of(rfc_text, "|V M P r r r r r|")
     for byte in range(256):
-        line("header", byte, *(byte >> header[b] & 1 for b in "RPET"), byte & 0b1111)
-        vendor, size = byte >> avp["V"] & 1, 12 if byte >> avp["V"] & 1 else 8
-        line("avp", byte, vendor, vendor, byte >> avp["M"] & 1, byte >> avp["P"] & 1, byte & 0b11111, size, size)
+        line("header", byte, *(byte & header[b] != 0 for b in "RPET"), byte & header["r"])
+        vendor = byte & avp["V"] != 0
+        size = 12 if vendor else 8
+        line("avp", byte, vendor, vendor, *(byte & avp[b] != 0 for b in "MP"), byte & avp["r"], size, size)
 
 
 def numbers():
-    for length in (0, 19, 20, 36, 2**24 - 1):
+    for length in (19, 20, 2**24 - 1):
         line("stated", length, max(length - 20, 0))
-    for length, available in ((0, 0), (20, 8), (20, 20), (20, 21)):
+    for length, available in ((20, 8), (20, 20)):
         line("length", length, available, *(["absent", length - available] if available < length else ["enough"]))
-    for length in range(6):
-        line("padding", length, -length % 4)
     for bits in (0, 1, 2**31 - 1, 2**31, 2208988800, 2**32 - 1):
         unix = bits + calendar.timegm((1900, 1, 1, 0, 0, 0))
         line("signed", bits, int.from_bytes(bits.to_bytes(4, "big"), "big", signed=True), unix, unix)
-    for number, (name, amount) in enumerate(REFUSALS.items(), 1):
-        line("refusal", name, number, amount)
+    for number, amount in enumerate(AMOUNTS, 1):
+        line("refusal", number, amount)
 
 
 def answered(ask, size, head):
@@ -108,17 +105,17 @@ def answered(ask, size, head):
 
 
 def library():
-    def read(ask, reading, limit, size, data):
-        errors, records, tried, length = ask(("sawp", "rfc")[reading], limit, size // 32, data)
-        return errors, len(records), tried, length, b"".join(records).ljust(size, b"\0")
+    def read(ask, reading, limit, data):
+        errors, records, tried, length = ask(("sawp", "rfc")[reading], limit, STORE // 32, data)
+        return errors, len(records), tried, length, b"".join(records).ljust(STORE, b"\0")
 
     def show(label, words, result):
         line(label, *words, *result[0], "leaves", *result[1])
 
-    for rfc, limit, size in ((0, 64, 37), (1, 64, 37), (1, 64, 31), (1, 0, 37)):
-        show("message", (rfc, limit), answered(lambda: read(model.message, rfc, limit, size, P8), size, P8))
-    for rfc, limit in ((0, 64), (1, 1), (1, 65)):
-        show("one-avp", (rfc, limit), answered(lambda: read(model.avp_alone, rfc, limit, 37, P8[20:]), 37, None))
+    for rfc, limit in ((0, 64), (1, 64), (1, 0)):
+        show("message", (rfc, limit), answered(lambda: read(model.message, rfc, limit, P8), STORE, P8))
+    for rfc, limit in ((0, 64), (1, 65)):
+        show("one-avp", (rfc, limit), answered(lambda: read(model.avp_alone, rfc, limit, P8[20:]), STORE, None))
     line("header-alone", *answered(lambda: (model.header_alone(P8)[0], 0, 0, 20, b""), 0, P8)[0])
     ids = b"".join(n.to_bytes(4, "big") for n in (257, 1, 2, 3, len(RECORD)))
     for size in (40, 35):
@@ -127,7 +124,7 @@ def library():
             return 0, 0, 0, len(out), out.ljust(size, bytes([LENT]))
 
         show("write", (), answered(write, size, None))
-    for text in map(bytes.fromhex, TEXTS):
+    for text in map(bytes.fromhex, ("41", "eda080", "f48fbfbf")):
         line("utf8", model.well_formed(text), *text)
 
 

@@ -3,82 +3,15 @@ use crate::print;
 use record::Record;
 use tandrekily::RESULT;
 
-const SIZE: usize = 36;
-
-const P8: [u8; SIZE] = [
-    1,
-    0,
-    0,
-    36,
-    0,
-    0,
-    0,
-    0,
-    0,
-    0,
-    0,
-    0,
-    0,
-    0,
-    0,
-    0,
-    0,
-    0,
-    0,
-    0,
-    0,
-    0,
-    1,
-    12,
-    0,
-    0,
-    0,
-    13,
-    0,
-    0,
-    7,
-    209,
-    0,
-    0,
-    0,
-    0,
-];
+const P8: [u8; 36] =
+    *b"\x01\0\0\x24\0\0\0\0\0\0\0\0\0\0\0\0\0\0\0\0\0\0\x01\x0C\0\0\0\x0D\0\0\x07\xD1\0\0\0\0";
 
 // Its record.
-const TABLE: [u8; Record::SIZE] = [
-    0,
-    0,
-    1,
-    12,
-    0,
-    0,
-    0,
-    13,
-    0,
-    0,
-    0,
-    0,
-    0,
-    0,
-    0,
-    28,
-    1,
-    4,
-    2,
-    3,
-    0,
-    0,
-    0,
-    0,
-    0,
-    0,
-    0,
-    0,
-    0,
-    0,
-    7,
-    209,
-];
+const TABLE: [u8; Record::SIZE] =
+    *b"\0\0\x01\x0C\0\0\0\x0D\0\0\0\0\0\0\0\x1C\x01\x04\x02\x03\0\0\0\0\0\0\0\0\0\0\x07\xD1";
+
+// Room for the record, with some bytes past it.
+const STORE: usize = 37;
 
 // What lent memory holds before a call.
 const LENT: u8 = 0xA5;
@@ -90,22 +23,30 @@ fn show(result: &[u64; RESULT], lent: &[u8]) {
     print::end();
 }
 
-fn message(rfc: bool, limit: usize, store: &mut [u8]) {
+fn read_message(rfc: bool, limit: usize, store: &mut [u8]) {
     let mut result = [0u64; RESULT];
     tandrekily::tandrekily_message(rfc, limit, &P8, store, &mut result);
-    print::label(b"message");
-    print::bit(rfc);
-    print::number(limit as u64);
     show(&result, store);
 }
 
-fn avp(rfc: bool, limit: usize, store: &mut [u8]) {
+fn message(rfc: bool, limit: usize) {
+    print::label(b"message");
+    print::bit(rfc);
+    print::number(limit as u64);
+    read_message(rfc, limit, &mut [LENT; STORE]);
+}
+
+fn read_avp(rfc: bool, limit: usize, store: &mut [u8]) {
     let mut result = [0u64; RESULT];
     tandrekily::tandrekily_avp(rfc, limit, &P8[20..], store, &mut result);
+    show(&result, store);
+}
+
+fn avp(rfc: bool, limit: usize) {
     print::label(b"one-avp");
     print::bit(rfc);
     print::number(limit as u64);
-    show(&result, store);
+    read_avp(rfc, limit, &mut [LENT; STORE]);
 }
 
 fn header() {
@@ -123,6 +64,12 @@ fn write(out: &mut [u8]) {
     show(&result, out);
 }
 
+// The output holds the message, and then it doesn't.
+fn writes() {
+    write(&mut [LENT; 40]);
+    write(&mut [LENT; 35]);
+}
+
 fn utf8(text: &[u8]) {
     print::label(b"utf8");
     print::bit(tandrekily::tandrekily_is_utf8(text));
@@ -130,38 +77,19 @@ fn utf8(text: &[u8]) {
     print::end();
 }
 
-// At the edges of RFC 3629's ranges.
 fn texts() {
-    utf8(b"");
     utf8(b"A");
-    utf8(&[0xC1, 0xBF]);
-    utf8(&[0xC2, 0x80]);
-    utf8(&[0xE0, 0x9F, 0xBF]);
-    utf8(&[0xED, 0x9F, 0xBF]);
-    utf8(&[0xED, 0xA0, 0x80]);
-    utf8(&[0xF4, 0x8F, 0xBF, 0xBF]);
-    utf8(&[0xF4, 0x90, 0x80, 0x80]);
-}
-
-// Room for one record with some bytes past it, and for none.
-fn messages() {
-    message(false, 64, &mut [LENT; 37]);
-    message(true, 64, &mut [LENT; 37]);
-    message(true, 64, &mut [LENT; 31]);
-    message(true, 0, &mut [LENT; 37]);
-}
-
-fn avps() {
-    avp(false, 64, &mut [LENT; 37]);
-    avp(true, 1, &mut [LENT; 37]);
-    avp(true, 65, &mut [LENT; 37]);
+    utf8(b"\xED\xA0\x80");
+    utf8(b"\xF4\x8F\xBF\xBF");
 }
 
 pub(super) fn lines() {
-    messages();
-    avps();
+    message(false, 64);
+    message(true, 64);
+    message(true, 0);
+    avp(false, 64);
+    avp(true, 65);
     header();
-    write(&mut [LENT; 40]);
-    write(&mut [LENT; 35]);
+    writes();
     texts();
 }

@@ -3,6 +3,7 @@
 mod bits;
 mod codes;
 mod library;
+mod names;
 mod numbers;
 mod print;
 

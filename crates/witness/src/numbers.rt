@@ -1,6 +1,5 @@
-// Lengths, padding, signed numbers and refusals.
+// Lengths, signed numbers and refusals.
 use crate::print;
-use avp::AVP;
 use header::Header;
 use octets::at_hand::Available;
 use refusal::Refusal;
@@ -36,13 +35,6 @@ fn at_hand(length: usize, available: usize) {
     print::end();
 }
 
-fn padding(length: usize) {
-    print::label(b"padding");
-    print::number(length as u64);
-    print::number(AVP::padding(length) as u64);
-    print::end();
-}
-
 // An Enumerated, and a Time in Unix seconds, by the crate and by the library.
 fn signed(bits: u32) {
     print::label(b"signed");
@@ -53,44 +45,34 @@ fn signed(bits: u32) {
     print::end();
 }
 
-fn refusal(name: &[u8], why: Refusal) {
+fn refusal(why: Refusal) {
     print::label(b"refusal");
-    print::word(name);
     print::number(why.number() as u64);
     print::number(why.amount() as u64);
     print::end();
 }
 
+// In document 01's order.
 fn refusals() {
-    refusal(b"Incomplete", Refusal::Incomplete(12));
-    refusal(b"NotVersion", Refusal::NotVersion);
-    refusal(b"BadLength", Refusal::BadLength);
-    refusal(b"NotTiled", Refusal::NotTiled);
-    refusal(b"TooDeep", Refusal::TooDeep);
-    refusal(b"NoRecords", Refusal::NoRecords(12));
-    refusal(b"BadDepth", Refusal::BadDepth);
-    refusal(b"BadHeader", Refusal::BadHeader);
-    refusal(b"BadTable", Refusal::BadTable(12));
-    refusal(b"TooLong", Refusal::TooLong);
-    refusal(b"NoRoom", Refusal::NoRoom(12));
+    refusal(Refusal::Incomplete(12));
+    refusal(Refusal::NotVersion);
+    refusal(Refusal::BadLength);
+    refusal(Refusal::NotTiled);
+    refusal(Refusal::TooDeep);
+    refusal(Refusal::NoRecords(12));
+    refusal(Refusal::BadDepth);
+    refusal(Refusal::BadHeader);
+    refusal(Refusal::BadTable(12));
+    refusal(Refusal::TooLong);
+    refusal(Refusal::NoRoom(12));
 }
 
 pub(super) fn lines() {
-    stated(0);
     stated(19);
     stated(20);
-    stated(36);
     stated(0xFF_FFFF);
-    at_hand(0, 0);
     at_hand(20, 8);
     at_hand(20, 20);
-    at_hand(20, 21);
-    padding(0);
-    padding(1);
-    padding(2);
-    padding(3);
-    padding(4);
-    padding(5);
     signed(0);
     signed(1);
     signed(0x7FFF_FFFF);
