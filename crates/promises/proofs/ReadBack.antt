@@ -14,7 +14,7 @@ use denote.Ref.{now}
 use Rattle.octets.specs.Octets.{Bytes, over}
 use Rattle.octets.specs.Run.{tiles, deepest}
 use Rattle.rfc6733.specs.Answer.{accepted, passes}
-use Rattle.rfc6733.specs.Header.{headerRefusals}
+use Rattle.rfc6733.specs.Header.{messageLength, headerRefusals}
 use Rattle.rfc6733.specs.Dictionary.{Dictionary, sawp}
 use Rattle.rfc6733.specs.Decoder.{capacity, messageRun, messageRecords, messageRefusals, messageOf, decoded}
 use Rattle.rfc6733.specs.Forest.{forest}
@@ -32,7 +32,7 @@ use Rattle.writer.specs.declared.Fields.{Fields}
 use Rattle.writer.specs.declared.Written.the-variants as writer
 use Rattle.writer.specs.Answers.{fieldsAs, answerOf}
 use Rattle.promises.proofs.Calls.{Slice, Parse, Write}
-use Rattle.promises.proofs.Acceptance.{accepted-as}
+use Rattle.promises.proofs.Acceptance.{AcceptedAs, accepted-as}
 
 -- where no refusal's test holds
 is-accepted : (D : Dictionary) (limit room : ℕ) (s : List ℕ) → 1 ≤ limit → limit ≤ 64 → passes (headerRefusals s) ≡ true
@@ -51,6 +51,10 @@ is-accepted D limit room s low high header tiled shallow fits =
       le-ltb room (length (messageRecords D s)) fits,
     ))
 
+same-length : (s : List ℕ) (n : ℕ) (r : Decoded) (a : AcceptedAs r (messageOf sawp s)) → messageLength s ≡ n → a .message .length ≡ n
+unfolding messageOf
+same-length s n r a stated = a .length-is ∙ stated
+
 -- r accepts the n bytes of the input, in which the records of depth 1 of the table stand
 pub record ReadAs (input table pool : List ℕ) (n : ℕ) (r : Decoded) : Type 0 where
   pub message : Message
@@ -68,7 +72,7 @@ pub written-then-decoded : (κs : Lfts 3) (fields : Fields) (table pool out : Sl
     → 1 ≤ limit → limit ≤ 64 → deepest (messageRun sawp (now input)) ≤ limit
     → length (messageRecords sawp (now input)) ≤ capacity (length (now store))
     → ReadAs (now input) (now table) (now pool) n r
-unfolding over answerOf output dictionary messageOf
+unfolding over answerOf output dictionary
 written-then-decoded κs fields table pool out n out′ λs limit input store r store′ p q bytes input-is low high shallow fits =
     let f = fieldsAs fields in
     let s = tableBytes f (now table) (now pool) in
@@ -81,7 +85,7 @@ written-then-decoded κs fields table pool out n out′ λs limit input store r 
     record {
       message = a .message;
       is-accepted = a .is-accepted;
-      length-is = a .length-is ∙ rw same (b .stated);
+      length-is = same-length (now input) n r a (rw same (b .stated));
       same-tops = rw same (b .same-tops);
       depth-one = b .depth-one;
     }

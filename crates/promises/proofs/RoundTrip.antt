@@ -63,7 +63,8 @@ left r limit room s m store rest e is =
     }
 
 -- `parse` accepted m and left its records in store′; `write`, given m's header, those records and the input, answered r and left out′.
--- `Bytes` is true of every slice of bytes; that of a reference is known only where a function has it lent, so a theorem about a call asks it.
+-- `Bytes` is true of every slice by its type; but `now` of a reference is a list of numbers, and that they are bytes is told only to a
+-- function that reads through it. So it stands here.
 pub decoded-then-written : (κs : Lfts 2) (reading : Reading) (limit : ℕ) (input store : Slice) (m : Message) (store′ : Slice)
     (λs : Lfts 3) (fields : Fields) (table pool out : Slice) (r : Written) (out′ : Slice)
     → Parse κs reading limit input store (decoder.Accepted m) store′ → Write λs fields table pool out r out′ → Bytes (now input)
