@@ -1,6 +1,6 @@
--- What `writer::write` wrote, `diameter::parse` accepts in the sawp reading, with the same codes, flags, vendors, data and padding at the
--- top level as the table's records of depth 1 (document 01, "Numbers returned", the writer). Between the contracts stands the reading
--- back of the definition (table/proofs/ReadBack).
+-- What `writer::write` wrote, `diameter::parse` accepts, with the same codes, flags, vendors, data and padding at the top level as the
+-- table's records of depth 1 (document 01, "Numbers returned", of the writer, asks it of the sawp reading; it is true of both). Between
+-- the contracts stands the reading back of the definition (table/proofs/ReadBack).
 -- Assumes nothing.
 use Prim.Native.Nat.{ℕ, _≤_}
 use mathlib.Core.Path.{_≡_, sym, ap, _∙_}
@@ -15,15 +15,15 @@ use Rattle.octets.specs.Octets.{Bytes, over}
 use Rattle.octets.specs.Run.{tiles, deepest}
 use Rattle.rfc6733.specs.Answer.{accepted, passes}
 use Rattle.rfc6733.specs.Header.{messageLength, headerRefusals}
-use Rattle.rfc6733.specs.Dictionary.{Dictionary, sawp}
+use Rattle.rfc6733.specs.Dictionary.{Dictionary}
 use Rattle.rfc6733.specs.Decoder.{capacity, messageRun, messageRecords, messageRefusals, messageOf, decoded}
 use Rattle.rfc6733.specs.Forest.{forest}
 use Rattle.rfc6733.specs.Writer.{tableOf, tableBytes, output}
 use Rattle.rfc6733.proofs.Answers.{accepts, passes-append}
 use Rattle.table.specs.Tops.{tops, topRecords, roots, ofDepth}
 use Rattle.table.proofs.Written.{written-writable}
-use Rattle.table.proofs.ReadBack.{sawp-read-back}
-use Rattle.attribute.specs.declared.Reading.the-variants.{Sawp}
+use Rattle.table.proofs.ReadBack.{read-back}
+use Rattle.attribute.specs.declared.Reading.{Reading}
 use Rattle.attribute.specs.Attributes.{dictionary}
 use Rattle.diameter.specs.declared.Message.{Message}
 use Rattle.diameter.specs.declared.Decoded.{Decoded}
@@ -51,41 +51,42 @@ is-accepted D limit room s low high header tiled shallow fits =
       le-ltb room (length (messageRecords D s)) fits,
     ))
 
-same-length : (s : List ℕ) (n : ℕ) (r : Decoded) (a : AcceptedAs r (messageOf sawp s)) → messageLength s ≡ n → a .message .length ≡ n
+same-length : (D : Dictionary) (s : List ℕ) (n : ℕ) (r : Decoded) (a : AcceptedAs r (messageOf D s)) → messageLength s ≡ n → a .message .length ≡ n
 unfolding messageOf
-same-length s n r a stated = a .length-is ∙ stated
+same-length D s n r a stated = a .length-is ∙ stated
 
 -- r accepts the n bytes of the input, in which the records of depth 1 of the table stand
-pub record ReadAs (input table pool : List ℕ) (n : ℕ) (r : Decoded) : Type 0 where
+pub record ReadAs (D : Dictionary) (input table pool : List ℕ) (n : ℕ) (r : Decoded) : Type 0 where
   pub message : Message
   pub is-accepted : r ≡ decoder.Accepted message
   pub length-is : message .length ≡ n
-  pub same-tops : tops (messageRun sawp input) ≡ topRecords pool (forest (tableOf table))
+  pub same-tops : tops (messageRun D input) ≡ topRecords pool (forest (tableOf table))
   pub depth-one : roots (forest (tableOf table)) ≡ ofDepth 1 (tableOf table)
 
 -- `write` wrote n bytes to the front of out′, and these are the input of `parse`, whose limit and store hold what they read as.
 -- `Bytes` is asked as in RoundTrip.
 pub written-then-decoded : (κs : Lfts 3) (fields : Fields) (table pool out : Slice) (n : ℕ) (out′ : Slice)
-    (λs : Lfts 2) (limit : ℕ) (input store : Slice) (r : Decoded) (store′ : Slice)
-    → Write κs fields table pool out (writer.Accepted n) out′ → Parse λs Sawp limit input store r store′ → Bytes (now table)
+    (λs : Lfts 2) (reading : Reading) (limit : ℕ) (input store : Slice) (r : Decoded) (store′ : Slice)
+    → Write κs fields table pool out (writer.Accepted n) out′ → Parse λs reading limit input store r store′ → Bytes (now table)
     → now input ≡ take n (now out′)
-    → 1 ≤ limit → limit ≤ 64 → deepest (messageRun sawp (now input)) ≤ limit
-    → length (messageRecords sawp (now input)) ≤ capacity (length (now store))
-    → ReadAs (now input) (now table) (now pool) n r
-unfolding over answerOf output dictionary
-written-then-decoded κs fields table pool out n out′ λs limit input store r store′ p q bytes input-is low high shallow fits =
+    → 1 ≤ limit → limit ≤ 64 → deepest (messageRun (dictionary reading) (now input)) ≤ limit
+    → length (messageRecords (dictionary reading) (now input)) ≤ capacity (length (now store))
+    → ReadAs (dictionary reading) (now input) (now table) (now pool) n r
+unfolding over answerOf output
+written-then-decoded κs fields table pool out n out′ λs reading limit input store r store′ p q bytes input-is low high shallow fits =
+    let D = dictionary reading in
     let f = fieldsAs fields in
     let s = tableBytes f (now table) (now pool) in
     let e = sym (p .0) in
     let w = written-writable f (now table) (now pool) (length (now out)) n e in
     let same : now input ≡ s = input-is ∙ ap (take n) (p .1) ∙ take-at s (drop (length s) (now out)) n (w .1) in
-    let b = sawp-read-back f (now table) (now pool) (length (now out)) n bytes e in
-    let yes = is-accepted sawp limit (capacity (length (now store))) (now input) low high (rw same (b .header)) (rw same (b .tiled)) shallow fits in
-    let a = accepted-as r (messageOf sawp (now input)) (q .0 ∙ yes) in
+    let b = read-back D f (now table) (now pool) (length (now out)) n bytes e in
+    let yes = is-accepted D limit (capacity (length (now store))) (now input) low high (rw same (b .header)) (rw same (b .tiled)) shallow fits in
+    let a = accepted-as r (messageOf D (now input)) (q .0 ∙ yes) in
     record {
       message = a .message;
       is-accepted = a .is-accepted;
-      length-is = same-length (now input) n r a (rw same (b .stated));
+      length-is = same-length D (now input) n r a (rw same (b .stated));
       same-tops = rw same (b .same-tops);
       depth-one = b .depth-one;
     }
