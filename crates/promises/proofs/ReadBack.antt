@@ -12,11 +12,12 @@ use borrow.Author.Tests.{le-leb, le-ltb}
 use contract.Lifetimes.{Lfts}
 use denote.Ref.{now}
 use Rattle.octets.specs.Octets.{Bytes, over}
-use Rattle.octets.specs.Run.{tiles, deepest}
+use Rattle.octets.specs.Run.{Tree, tree, tiles, deepest}
 use Rattle.rfc6733.specs.Answer.{accepted, passes}
 use Rattle.rfc6733.specs.Header.{messageLength, headerRefusals}
 use Rattle.rfc6733.specs.Dictionary.{Dictionary}
-use Rattle.rfc6733.specs.Decoder.{capacity, messageRun, messageRecords, messageRefusals, messageOf, decoded}
+use Rattle.rfc6733.specs.Decoder.{capacity, allowed, messageBody, messageRecords, messageRefusals, messageOf, decoded}
+use Rattle.rfc6733.specs.Record.{avps}
 use Rattle.rfc6733.specs.Forest.{forest}
 use Rattle.rfc6733.specs.Writer.{tableOf, tableBytes, output}
 use Rattle.rfc6733.proofs.Answers.{accepts, passes-append}
@@ -34,11 +35,15 @@ use Rattle.writer.specs.Answers.{fieldsAs, answerOf}
 use Rattle.promises.proofs.Calls.{Slice, Parse, Write}
 use Rattle.promises.proofs.Acceptance.{AcceptedAs, accepted-as}
 
+-- the run of a message's AVPs
+abbrev pub run : Dictionary → List ℕ → Tree
+run D s = tree (avps D) (messageBody s)
+
 -- where no refusal's test holds
 is-accepted : (D : Dictionary) (limit room : ℕ) (s : List ℕ) → 1 ≤ limit → limit ≤ 64 → passes (headerRefusals s) ≡ true
-    → tiles (messageRun D s) ≡ true → deepest (messageRun D s) ≤ limit → length (messageRecords D s) ≤ room
+    → tiles (run D s) ≡ true → deepest (run D s) ≤ limit → length (messageRecords D s) ≤ room
     → decoded D limit room s ≡ accepted (messageOf D s)
-unfolding decoded messageRefusals
+unfolding decoded messageRefusals messageRecords allowed
 is-accepted D limit room s low high header tiled shallow fits =
     accepts (messageRefusals D limit room s) (messageOf D s)
     (simp (
@@ -47,7 +52,7 @@ is-accepted D limit room s low high header tiled shallow fits =
       passes-append,
       header,
       tiled,
-      le-ltb limit (deepest (messageRun D s)) shallow,
+      le-ltb limit (deepest (run D s)) shallow,
       le-ltb room (length (messageRecords D s)) fits,
     ))
 
@@ -60,7 +65,7 @@ pub record ReadAs (D : Dictionary) (input table pool : List ℕ) (n : ℕ) (r : 
   pub message : Message
   pub is-accepted : r ≡ decoder.Accepted message
   pub length-is : message .length ≡ n
-  pub same-tops : tops (messageRun D input) ≡ topRecords pool (forest (tableOf table))
+  pub same-tops : tops (run D input) ≡ topRecords pool (forest (tableOf table))
   pub depth-one : roots (forest (tableOf table)) ≡ ofDepth 1 (tableOf table)
 
 -- `write` wrote n bytes to the front of out′, and these are the input of `parse`, whose limit and store hold what they read as.
@@ -69,7 +74,7 @@ pub written-then-decoded : (κs : Lfts 3) (fields : Fields) (table pool out : Sl
     (λs : Lfts 2) (reading : Reading) (limit : ℕ) (input store : Slice) (r : Decoded) (store′ : Slice)
     → Write κs fields table pool out (writer.Accepted n) out′ → Parse λs reading limit input store r store′ → Bytes (now table)
     → now input ≡ take n (now out′)
-    → 1 ≤ limit → limit ≤ 64 → deepest (messageRun (dictionary reading) (now input)) ≤ limit
+    → 1 ≤ limit → limit ≤ 64 → deepest (run (dictionary reading) (now input)) ≤ limit
     → length (messageRecords (dictionary reading) (now input)) ≤ capacity (length (now store))
     → ReadAs (dictionary reading) (now input) (now table) (now pool) n r
 unfolding over answerOf output
