@@ -8,7 +8,6 @@ use lib.Seq.{getD-drop}
 use Rattle.octets.specs.Octets.{be, over}
 use Rattle.octets.proofs.Numbers.{be-same}
 use Rattle.rfc6733.specs.Record.{recordAt}
-use Rattle.rfc6733.specs.Writer.{bare, entryAt}
 
 zero-at : (n i : ℕ) → _≡_ {A = ℕ} (getD (replicate n 0) i 0) 0
 zero-at zero i = refl
@@ -20,8 +19,8 @@ byte-before-zeros [] t zeros i = zeros i
 byte-before-zeros (b ∷ s) t zeros zero = refl
 byte-before-zeros (b ∷ s) t zeros (suc i) = byte-before-zeros s t zeros i
 
-pub record-over-zeros : (s : List ℕ) (n : ℕ) → entryAt (over s (replicate n 0)) ≡ entryAt s
-unfolding entryAt recordAt bare over
+pub record-over-zeros : (s : List ℕ) (n : ℕ) → recordAt (over s (replicate n 0)) ≡ recordAt s
+unfolding recordAt over
 record-over-zeros s n =
     let zeros : List ℕ = drop (length s) (replicate n 0) in
     let same : (w i : ℕ) → be w (s ++ zeros) i ≡ be w s i =

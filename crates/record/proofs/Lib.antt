@@ -5,3 +5,4 @@ pub mod LastFirst
 pub mod RecordAs
 pub mod Room
 pub mod Turned
+pub mod Whole

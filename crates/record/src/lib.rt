@@ -7,7 +7,7 @@ ghost use lib.ListN.{length, take, drop, replicate};
 ghost use lib.Seq.{sets};
 ghost use lib.Dec.{leb};
 ghost use Rattle.octets.specs.Octets.{octets, pack, over};
-ghost use Rattle.rfc6733.specs.Record.{recordSize, layout};
+ghost use Rattle.rfc6733.specs.Record.{recordSize, layout, recordAt};
 ghost use Rattle.rfc6733.specs.Writer.{entryAt};
 ghost use Rattle.record.specs.Stored.{recordAs, put};
 
@@ -175,5 +175,35 @@ impl Record {
             return Self::fields(&Self::padded(table));
         }
         Self::fields(table)
+    }
+
+    // Bytes 18 and 24 to 31 besides, the error flags and the value.
+    fn all_fields(table: &[u8]) -> Record
+        requires { ⌜ recordSize ≤ length (now table) ⌝ }
+        ensures { λ r. ⌜ recordAs r ≡ recordAt (now (table .entry)) ⌝ }
+    {
+        let mut r = Self::fields(table);
+        r.errors = table[18];
+        r.value = octets::be_u64(
+            table[24],
+            table[25],
+            table[26],
+            table[27],
+            table[28],
+            table[29],
+            table[30],
+            table[31],
+        );
+        r
+    }
+
+    /// The whole record at the front of a table. A byte that is absent counts as 0.
+    pub fn read(table: &[u8]) -> Record
+        ensures { λ r. ⌜ recordAs r ≡ recordAt (now (table .entry)) ⌝ }
+    {
+        if table.len() < Self::SIZE {
+            return Self::all_fields(&Self::padded(table));
+        }
+        Self::all_fields(table)
     }
 }

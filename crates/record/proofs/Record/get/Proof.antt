@@ -1,14 +1,16 @@
 -- `Record::get` meets its contract: with 32 bytes the fields are read as they stand. With fewer they are read from the table over zeros,
 -- and `record-over-zeros` says that those give the same record.
 -- Assumes nothing.
-use mathlib.Core.Path.{_∙_}
+use mathlib.Core.Path.{ap, _∙_}
 use borrow.Author.Needs.{needs}
+use Rattle.rfc6733.specs.Writer.{bare, entryAt}
 use Rattle.record.proofs.Absent.{record-over-zeros}
 use Rattle.record.proofs.Record.get.Statement.{statement}
 use Rattle.record.proofs.Record.get.Tie as tie
 
 returns : tie.Need-returns
-returns c = c .fields .ensures ∙ rw (c .before .before .padded .ensures) (record-over-zeros _ 32)
+unfolding entryAt
+returns c = c .fields .ensures ∙ rw (c .before .before .padded .ensures) (ap bare (record-over-zeros _ 32))
 
 pub get-spec : {M : Type 1} → statement M
 get-spec =
