@@ -5,7 +5,7 @@ use mathlib.Core.Path.{_≡_, refl, sym, ap, _∙_}
 use mathlib.Core.List.{List, [], _++_, append-cancel-left, append-assoc, append-nil}
 use native.Mathlib.Omega.{arith}
 use lib.ListN.{length, take, drop, length-append, length-drop, drop-of-length-le}
-use lib.Seq.{take-take, take-add, take-all, take-at, drop-at, drop-drop, length-take-le}
+use lib.Seq.{take-take, take-add, take-all, take-length, take-at, drop-at, drop-drop, length-take-le}
 use borrow.Rule.Slice.PartMut.{putMid}
 use Rattle.octets.specs.Octets.{over}
 
@@ -43,6 +43,11 @@ pub over-before : (a b old : List ℕ) (n : ℕ) → length a ≡ n → n ≤ le
 unfolding over
 over-before a b old n e h =
     rw (drop-at (take n old) (b ++ drop (length b) (drop n old)) (length a) (length-take-le n old h ∙ sym e), drop-drop (length b) n old, length-append a b, e, append-assoc)
+
+-- what a copy leaves
+pub copied : (src old : List ℕ) → take (length src) src ++ drop (length src) old ≡ over src old
+unfolding over
+copied src old = rw (take-length src)
 
 -- a part from a place on that was lent and came back
 pub lent : (n : ℕ) (s back : List ℕ) → putMid n (length s - n) s back ≡ take n s ++ back

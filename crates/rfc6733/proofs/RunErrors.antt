@@ -1,14 +1,15 @@
--- A run's error flags are below 16 in both readings: each flag is, and joining keeps it so. For any dictionary this asks only
--- that the flags of an Address are.
+-- A run's error flags are below 16 in both readings: each flag is, and joining keeps it so. And what is read of bytes is a number
+-- of eight bytes at most. For any dictionary this asks only that it is so of an Address.
 -- Assumes nothing.
-use Prim.Native.Nat.{ℕ, _<_}
+use Prim.Native.Nat.{ℕ, _^_, _<_}
 use mathlib.Core.Bool.{Bool, true, false, cond, not}
 use mathlib.Core.List.{List, [], _∷_}
 use native.Mathlib.Omega.{arith}
 use lib.ListN.{length}
 use lib.Dec.{ltb, eqb}
-use Rattle.octets.specs.Octets.{be}
+use Rattle.octets.specs.Octets.{be, Bytes}
 use Rattle.octets.specs.Run.{Tree, done, broken, plain, group, tiles}
+use Rattle.octets.proofs.Numbers.{be-small}
 use Rattle.rfc3629.specs.Utf8.{wellFormed}
 use Rattle.rfc6733.specs.Flags.{dataValue, dataLength, nonZeroReserved, nonZeroPadding, flag}
 use Rattle.rfc6733.specs.Avp.{flags, avpReserved, payload, pads}
@@ -17,58 +18,63 @@ use Rattle.rfc6733.specs.Dictionary.{Dictionary, familyAddress, bareAddr
 use Rattle.rfc6733.specs.Record.{kindOf, valueOf, ownErrors, errors}
 use Rattle.rfc6733.proofs.Joins.{join-small, flag-small}
 
--- a value whose flags are below 16
-record Small (v : Value) : Type 0 where
-  below : v .errors < 16
+-- a value that was read of s: its flags are below 16, and its number fits eight bytes
+pub record Small (s : List ℕ) (v : Value) : Type 0 where
+  pub below : v .errors < 16
+  pub fits : Bytes s → v .number < 256 ^ 8
 
-small : (k e n : ℕ) → e < 16 → Small (value k e n)
-small k e n h = record { below = h }
-
-either : {v w : Value} (b : Bool) → Small v → Small w → Small (cond b v w)
+either : {s : List ℕ} {v w : Value} (b : Bool) → Small s v → Small s w → Small s (cond b v w)
 either true hv hw = hv
 either false hv hw = hw
 
-own-small : (a : List ℕ) → ownErrors a < 16
+pub own-small : (a : List ℕ) → ownErrors a < 16
 unfolding ownErrors
 own-small a =
     join-small (flag (not (eqb (avpReserved (flags a)) 0)) nonZeroReserved) (flag (not (eqb (pads a) 0)) nonZeroPadding)
     (flag-small (not (eqb (avpReserved (flags a)) 0)) nonZeroReserved (omega arith))
     (flag-small (not (eqb (pads a) 0)) nonZeroPadding (omega arith))
 
-unflagged : (k n : ℕ) → Small (value k 0 n)
-unflagged k n = small k 0 n (omega arith)
+-- a number of four bytes
+four : (s : List ℕ) (i : ℕ) → Bytes s → be 4 s i < 256 ^ 8
+four s i b = let l = be-small 4 s i b in omega arith
 
-wrong-length : Small (value unhandled dataLength 0)
-wrong-length = small unhandled dataLength 0 (omega arith)
+unflagged : (s : List ℕ) (k n : ℕ) → (Bytes s → n < 256 ^ 8) → Small s (value k 0 n)
+unflagged s k n f = record { below = omega arith; fits = f }
 
-fixed-small : (w k : ℕ) (s : List ℕ) → Small (fixed w k s)
+unnumbered : (s : List ℕ) (k e : ℕ) → e < 16 → Small s (value k e 0)
+unnumbered s k e h = record { below = h; fits = λ b. omega arith }
+
+wrong-length : (s : List ℕ) → Small s (value unhandled dataLength 0)
+wrong-length s = unnumbered s unhandled dataLength (omega arith)
+
+fixed-small : (w k : ℕ) (s : List ℕ) → (Bytes s → be w s 0 < 256 ^ 8) → Small s (fixed w k s)
 unfolding fixed
-fixed-small w k s =
-    either (ltb (length s) w) wrong-length
-    (small k (flag (ltb w (length s)) dataLength) (be w s 0) (flag-small (ltb w (length s)) dataLength (omega arith)))
+fixed-small w k s f =
+    either (ltb (length s) w) (wrong-length s)
+    (record { below = flag-small (ltb w (length s)) dataLength (omega arith); fits = f })
 
-text-small : (k : ℕ) (s : List ℕ) → Small (text k s)
+text-small : (k : ℕ) (s : List ℕ) → Small s (text k s)
 unfolding text
-text-small k s = either (wellFormed s) (unflagged k 0) (small unhandled dataValue 0 (omega arith))
+text-small k s = either (wellFormed s) (unnumbered s k 0 (omega arith)) (unnumbered s unhandled dataValue (omega arith))
 
-module _ (asAddress : List ℕ → Value) (address-small : (s : List ℕ) → Small (asAddress s)) where
-  read-small : (k : ℕ) (s : List ℕ) → Small (readAs asAddress k s)
+module _ (asAddress : List ℕ → Value) (address-small : (s : List ℕ) → Small s (asAddress s)) where
+  read-small : (k : ℕ) (s : List ℕ) → Small s (readAs asAddress k s)
   unfolding readAs
   read-small k s =
-      either (oneOf k (integer32 ∷ unsigned32 ∷ float32 ∷ enumerated ∷ time ∷ [])) (fixed-small 4 k s)
-      (either (oneOf k (integer64 ∷ unsigned64 ∷ float64 ∷ [])) (fixed-small 8 k s)
+      either (oneOf k (integer32 ∷ unsigned32 ∷ float32 ∷ enumerated ∷ time ∷ [])) (fixed-small 4 k s (four s 0))
+      (either (oneOf k (integer64 ∷ unsigned64 ∷ float64 ∷ [])) (fixed-small 8 k s (be-small 8 s 0))
       (either (oneOf k (utf8String ∷ diameterIdentity ∷ diameterURI ∷ [])) (text-small k s)
-      (either (eqb k address) (address-small s) (unflagged k 0))))
+      (either (eqb k address) (address-small s) (unnumbered s k 0 (omega arith)))))
 
-module _ (D : Dictionary) (address-small : (s : List ℕ) → Small (D .asAddress s)) where
-  value-small : (a : List ℕ) → valueOf D a .errors < 16
+module _ (D : Dictionary) (address-small : (s : List ℕ) → Small s (D .asAddress s)) where
+  pub value-small : (a : List ℕ) → Small (payload a) (valueOf D a)
   unfolding valueOf
-  value-small a = read-small (D .asAddress) address-small (kindOf D a) (payload a) .below
+  value-small a = read-small (D .asAddress) address-small (kindOf D a) (payload a)
 
-  errors-small : (t : Tree) → errors D t < 16
+  pub errors-small : (t : Tree) → errors D t < 16
   errors-small done = omega arith
   errors-small broken = omega arith
-  errors-small (plain a rest) = join-small _ _ (join-small _ _ (own-small a) (value-small a)) (errors-small rest)
+  errors-small (plain a rest) = join-small _ _ (join-small _ _ (own-small a) (value-small a .below)) (errors-small rest)
   errors-small (group a inner rest) =
       join-small _ _ (join-small _ _ (own-small a) (by (tiles inner) (errors-small inner))) (errors-small rest)
     where
@@ -76,18 +82,19 @@ module _ (D : Dictionary) (address-small : (s : List ℕ) → Small (D .asAddres
       by true h = h
       by false h = omega arith
 
-bare-small : (s : List ℕ) → Small (bareAddress s)
+pub bare-small : (s : List ℕ) → Small s (bareAddress s)
 unfolding bareAddress
 bare-small s =
-    either (eqb (length s) 4) (unflagged address (be 4 s 0)) (either (eqb (length s) 16) (unflagged address 0) wrong-length)
+    either (eqb (length s) 4) (unflagged s address (be 4 s 0) (four s 0))
+    (either (eqb (length s) 16) (unnumbered s address 0 (omega arith)) (wrong-length s))
 
-family-small : (s : List ℕ) → Small (familyAddress s)
+family-small : (s : List ℕ) → Small s (familyAddress s)
 unfolding familyAddress
 family-small s =
-    either (ltb (length s) 2) wrong-length
-    (either (eqb (be 2 s 0) 1) (either (eqb (length s) 6) (unflagged address (be 4 s 2)) wrong-length)
-    (either (eqb (be 2 s 0) 2) (either (eqb (length s) 18) (unflagged address 0) wrong-length)
-    (unflagged unhandled 0)))
+    either (ltb (length s) 2) (wrong-length s)
+    (either (eqb (be 2 s 0) 1) (either (eqb (length s) 6) (unflagged s address (be 4 s 2) (four s 2)) (wrong-length s))
+    (either (eqb (be 2 s 0) 2) (either (eqb (length s) 18) (unnumbered s address 0 (omega arith)) (wrong-length s))
+    (unnumbered s unhandled 0 (omega arith))))
 
 pub sawp-errors-small : (t : Tree) → errors sawp t < 16
 unfolding sawp

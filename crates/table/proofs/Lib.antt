@@ -23,3 +23,4 @@ pub mod AvpBack
 pub mod ForestBack
 pub mod Roots
 pub mod ReadBack
+pub mod Whole

@@ -10,6 +10,10 @@ use lib.Seq.{getD-drop, getD-take}
 use lib.Dec.{ltb}
 use borrow.Author.Tests.{ltb-true, ltb-false}
 use Rattle.octets.specs.Octets.{Bytes}
+use Rattle.octets.specs.Run.{item, after}
+use Rattle.rfc6733.specs.Avp.{flags, headSize, dataSize, avpSize, payload}
+use Rattle.rfc6733.specs.Dictionary.{Dictionary}
+use Rattle.rfc6733.specs.Record.{avps}
 
 pub bytes-drop : (k : ℕ) (s : List ℕ) → Bytes s → Bytes (drop k s)
 bytes-drop k s b i = rw (getD-drop k s i 0) (b (k + i))
@@ -22,3 +26,17 @@ bytes-take n s b i = by (ltb i n) refl
     by false e =
         let h = ltb-false i n e in
         rw (List·getD-eq-default (take n s) 0 {n = i} (omega (arith, length-take n s))) (omega arith)
+
+-- ---- parts of a run
+
+pub bytes-item : (D : Dictionary) (s : List ℕ) → Bytes s → Bytes (item (avps D) s)
+unfolding item
+bytes-item D s b = bytes-take (avpSize s) s b
+
+pub bytes-after : (D : Dictionary) (s : List ℕ) → Bytes s → Bytes (after (avps D) s)
+unfolding after
+bytes-after D s b = bytes-drop (avpSize s) s b
+
+pub bytes-payload : (a : List ℕ) → Bytes a → Bytes (payload a)
+unfolding payload
+bytes-payload a b = bytes-take (dataSize a) (drop (headSize (flags a)) a) (bytes-drop (headSize (flags a)) a b)

@@ -21,6 +21,7 @@ use Rattle.rfc6733.specs.Writer.{tableOf, forestBytes, messageBytes, tableBytes
 use Rattle.rfc6733.proofs.Accepted.{when-accepted}
 use Rattle.rfc6733.proofs.Layouts.{laid-length}
 use Rattle.rfc6733.specs.Writer.{bare}
+use Rattle.table.specs.Tables.{AllFit}
 use Rattle.table.specs.Trip.{fieldsOf, Lawful, forestOf}
 use Rattle.table.proofs.Packed.{bytes-take, bytes-drop}
 use Rattle.table.proofs.Headers.{message-again}
@@ -55,6 +56,12 @@ module _ (D : Dictionary) (lawful : Lawful D) (limit room : ℕ) (s : List ℕ) 
       trips s D lawful (messageBody s) 20 1 (omega arith) (omega arith) (bytes-take n (drop 20 s) (bytes-drop 20 s bytes)) (omega arith) (holds-here s 20 n)
       (a .tiled)
 
+  pub records-fit : AllFit (messageRecords D s)
+  unfolding messageRecords
+  records-fit =
+      let rs = records D headerSize 1 (messageRun D s) in
+      fit-bare rs (rw (flat-records D headerSize 1 (messageRun D s)) (trip .fits))
+
   -- the records in the table are those of the run
   table-is : tableOf (laid (messageRecords D s)) ≡ flat trees
   unfolding messageRecords runRecords
@@ -62,7 +69,7 @@ module _ (D : Dictionary) (lawful : Lawful D) (limit room : ℕ) (s : List ℕ) 
       let rs = messageRecords D s in
       let same = flat-records D headerSize 1 (tree (avps D) (messageBody s)) in
       ap tableOf (sym (append-nil (laid rs)))
-      ∙ laid-read rs [] (fit-bare rs (rw same (trip .fits)))
+      ∙ laid-read rs [] records-fit
       ∙ ap (λ (x : List Record). map bare rs ++ x) (table-none [] (omega arith))
       ∙ append-nil (map bare rs)
       ∙ same

@@ -6,18 +6,18 @@ use mathlib.Core.Path.{_≡_, refl}
 use mathlib.Core.Bool.{Bool, true, false}
 use mathlib.Core.List.{List, _++_}
 use native.Mathlib.Omega.{arith}
-use lib.ListN.{length, drop}
+use lib.ListN.{length}
 use Rattle.octets.specs.Octets.{Bytes}
 use Rattle.octets.specs.Run.{item, after, Tree, group, node, tree, tiles, deepest}
 use Rattle.octets.proofs.Runs.{false-true, Parts, tree-none, tree-step, by-run}
-use Rattle.rfc6733.specs.Avp.{flags, headSize, dataSize, avpSize, payload, complete, Exact}
+use Rattle.rfc6733.specs.Avp.{flags, headSize, payload, complete, Exact}
 use Rattle.rfc6733.specs.Dictionary.{Dictionary}
 use Rattle.rfc6733.specs.Record.{valueOf, groupValue, avps, errors}
 use Rattle.rfc6733.proofs.Alone.{item-exact}
 use Rattle.rfc6733.proofs.Complete.{sizes, complete-whole}
 use Rattle.rfc6733.proofs.Items.{sound, payload-length}
 use Rattle.table.specs.Trip.{Lawful, forestOf}
-use Rattle.table.proofs.Packed.{bytes-take, bytes-drop}
+use Rattle.table.proofs.Packed.{bytes-item, bytes-payload, bytes-after}
 use Rattle.table.proofs.LeafKinds.{value-leaf}
 use Rattle.table.proofs.Sound.{Sound}
 use Rattle.table.proofs.Places.{Holds, holds-front, holds-behind}
@@ -40,18 +40,6 @@ module _ (pool : List ℕ) (D : Dictionary) (lawful : Lawful D) where
     abbrev rest : Tree
     rest = tree (avps D) (after (avps D) s)
 
-    bytes-a : Bytes s → Bytes a
-    unfolding item
-    bytes-a b = bytes-take (avpSize s) s b
-
-    bytes-payload : Bytes s → Bytes (payload a)
-    unfolding payload
-    bytes-payload b = bytes-take (dataSize a) (drop (headSize (flags a)) a) (bytes-drop (headSize (flags a)) a (bytes-a b))
-
-    bytes-after : Bytes s → Bytes (after (avps D) s)
-    unfolding after
-    bytes-after b = bytes-drop (avpSize s) s b
-
     trips-node : (b : Bool) → avps D .nested a ≡ b → Trips (payload a) inner → Trips (after (avps D) s) rest → Trips s (node true b a inner rest)
     unfolding groupValue
     trips-node b nested hi hr place depth low deep bytes within holds tiled = by b nested deep tiled
@@ -67,7 +55,7 @@ module _ (pool : List ℕ) (D : Dictionary) (lawful : Lawful D) where
 
         follows : depth + deepest rest ≤ 65 → tiles rest ≡ true → Trip pool depth (after (avps D) s) (forestOf D (place + length a) depth rest)
         follows d t =
-            hr (place + length a) depth low d (bytes-after bytes) (omega arith) (holds-behind pool place a (after (avps D) s) all-held) t
+            hr (place + length a) depth low d (bytes-after D s bytes) (omega arith) (holds-behind pool place a (after (avps D) s) all-held) t
 
         within-a : place + length a < 256 ^ 4
         within-a = omega arith
@@ -78,17 +66,17 @@ module _ (pool : List ℕ) (D : Dictionary) (lawful : Lawful D) where
             let w = complete-whole a (exact .whole) in
             let z = sizes a in
             let l = payload-length a w in
-            hi (place + headSize (flags a)) (depth + 1) (omega arith) d (bytes-payload bytes) (omega (arith, exact .size-is)) (payload-held pool place a exact held) t
+            hi (place + headSize (flags a)) (depth + 1) (omega arith) d (bytes-payload a (bytes-item D s bytes)) (omega (arith, exact .size-is)) (payload-held pool place a exact held) t
 
         by-inner : (t : Bool) → tiles inner ≡ t → depth + deepest (group a inner rest) ≤ 65 → tiles rest ≡ true
             → Trip pool depth (a ++ after (avps D) s) (forestOf D place depth (group a inner rest))
         by-inner true e d t =
             rw e
-            (trip-group pool place depth a exact (bytes-a bytes) held within-a low (omega arith) (errors D inner) _ _ (after (avps D) s)
+            (trip-group pool place depth a exact (bytes-item D s bytes) held within-a low (omega arith) (errors D inner) _ _ (after (avps D) s)
             (members (omega arith) e) (follows (omega arith) t))
         by-inner false e d t =
             rw e
-            (trip-leaf pool place depth a exact (bytes-a bytes) held within-a low (omega arith) _ _ (after (avps D) s)
+            (trip-leaf pool place depth a exact (bytes-item D s bytes) held within-a low (omega arith) _ _ (after (avps D) s)
             (record { low = omega arith; other = refl }) (follows (omega arith) t))
 
         by : (c : Bool) → avps D .nested a ≡ c → depth + deepest (node true c a inner rest) ≤ 65 → tiles (node true c a inner rest) ≡ true
@@ -96,7 +84,7 @@ module _ (pool : List ℕ) (D : Dictionary) (lawful : Lawful D) where
         by true e d t = rw (p .whole) at (by-inner (tiles inner) refl d t)
         by false e d t =
             rw (p .whole) at
-            (trip-leaf pool place depth a exact (bytes-a bytes) held within-a low (omega arith) (valueOf D a) _ (after (avps D) s)
+            (trip-leaf pool place depth a exact (bytes-item D s bytes) held within-a low (omega arith) (valueOf D a) _ (after (avps D) s)
             (value-leaf D lawful a e) (follows (omega arith) t))
 
   pub trips : (s : List ℕ) → Trips s (tree (avps D) s)

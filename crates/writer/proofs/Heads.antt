@@ -5,7 +5,7 @@ use mathlib.Core.Path.{_≡_, sym, ap, _∙_}
 use mathlib.Core.Bool.{true, false}
 use mathlib.Core.List.{List, [], _∷_, _++_}
 use lib.ListN.{length, take, drop}
-use lib.Seq.{sets, sets-eq, take-length}
+use lib.Seq.{sets, sets-eq}
 use Rattle.octets.specs.Octets.{Field, field, octets, pack, over}
 use Rattle.rfc6733.specs.Flags.{bit}
 use Rattle.rfc6733.specs.Avp.{vendorBit, headSize}
@@ -45,9 +45,3 @@ module _ (r : Record) (n : ℕ) (l : List ℕ) where
 pub with-vendor : (r : Record) → bit vendorBit (r .flags) ≡ true → headOf r ≡ 12
 unfolding headOf headSize
 with-vendor r e = rw e
-
--- ---- what is copied
-
-pub copied : (src old : List ℕ) → take (length src) src ++ drop (length src) old ≡ over src old
-unfolding over
-copied src old = rw (take-length src)

@@ -8,7 +8,7 @@ use lib.ListN.{length, take, drop, length-append, length-drop}
 use lib.Seq.{length-take-le}
 use borrow.Rule.Slice.PartMut.{putMid}
 use Rattle.octets.specs.Octets.{pack, over}
-use Rattle.octets.proofs.Lists.{rest, lent, over-more}
+use Rattle.octets.proofs.Lists.{rest, lent, copied, over-more}
 use Rattle.rfc6733.specs.Avp.{padding}
 use Rattle.rfc6733.specs.Record.{Record}
 use Rattle.rfc6733.specs.Writer.{headOf, statedData, avpBytes, headFields, padBytes}
@@ -17,7 +17,6 @@ use Rattle.table.proofs.Lengths.{head-low, head-length, avp-length}
 use Rattle.record.specs.declared.Record as code
 use Rattle.record.specs.Stored.{recordAs}
 use Rattle.writer.specs.Emitting.{dataIn, LeafRoom, Put}
-use Rattle.writer.proofs.Heads.{copied}
 
 -- ---- its sizes
 

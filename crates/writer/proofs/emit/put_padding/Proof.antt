@@ -8,7 +8,7 @@ use denote.Ref.{now}
 use borrow.Author.Needs.{needs}
 use Rattle.table.proofs.Lengths.{pad-length}
 use Rattle.record.specs.Stored.{recordAs}
-use Rattle.writer.proofs.Heads.{copied}
+use Rattle.octets.proofs.Lists.{copied}
 use Rattle.writer.proofs.emit.put_padding.Statement.{statement}
 use Rattle.writer.proofs.emit.put_padding.Tie as tie
 
