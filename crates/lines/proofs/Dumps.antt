@@ -1,0 +1,105 @@
+-- The text of an input, by what the decoder answers: the records that it stored are read back whole, so their lines are those of the
+-- definition, and the text fits.
+-- Assumes nothing.
+use Prim.Native.Nat.{ℕ, suc, _+_, _*_, _-_, _/_, _^_, _≤_, _<_, min}
+use mathlib.Core.Path.{_≡_, refl, sym, ap, ap₂, _∙_}
+use mathlib.Core.Bool.{Bool, true, false}
+use mathlib.Core.List.{List, [], _∷_, _++_, append-assoc}
+use native.Mathlib.Omega.{arith}
+use lib.ListN.{length, take, drop, replicate, length-append}
+use lib.Seq.{take-all, drop-at}
+use lib.Dec.{leb}
+use borrow.Author.Tests.{leb-true, leb-false}
+use Rattle.octets.specs.Octets.{Bytes, over}
+use Rattle.octets.proofs.Numbers.{be-small}
+use Rattle.rfc6733.specs.Answer.{Answer, accepted, refused}
+use Rattle.rfc6733.specs.Header.{messageLength}
+use Rattle.rfc6733.specs.Dictionary.{sawp}
+use Rattle.rfc6733.specs.Record.{Record, recordSize, recordBytes, recordAt, laid}
+use Rattle.rfc6733.specs.Decoder.{Counts, Message, messageRecords, messageOf, decoded, stored}
+use Rattle.rfc6733.specs.Dump.{recordLines, firstLine, line, linesText, dump, dumpText, dumped}
+use Rattle.rfc6733.proofs.Accepted.{when-accepted}
+use Rattle.rfc6733.proofs.Layouts.{record-length, laid-length}
+use Rattle.table.specs.Tables.{AllFit}
+use Rattle.table.proofs.Packed.{bytes-take}
+use Rattle.table.proofs.Whole.{AllValued, record-back, Whole, sawp-whole}
+use Rattle.lines.specs.Text.{recordsIn, recordsText, messageText, refusalText, Room, Put}
+use Rattle.lines.proofs.Sizes.{records-short, first-short, refusal-short}
+
+-- the front of an input, no more than k bytes
+pub front-is : (k n : ℕ) (s : List ℕ) → n ≡ min (length s) k → take n s ≡ take k s
+front-is k n s e = by (leb (length s) k) refl
+  where
+    by : (b : Bool) → leb (length s) k ≡ b → take n s ≡ take k s
+    by true f = let h = leb-true (length s) k f in take-all n s (omega arith) ∙ sym (take-all k s h)
+    by false f = let h = leb-false (length s) k f in let same : n ≡ k = omega arith in ap (λ (x : ℕ). take x s) same
+
+-- records that were laid out are read back
+records-back : (rs : List Record) (more : List ℕ) → AllFit rs → AllValued rs → recordsIn (length rs) (laid rs ++ more) ≡ rs
+records-back [] more f v = refl
+records-back (r ∷ rs) more f v =
+    let s = laid rs ++ more in
+    ap (recordsIn (suc (length rs))) (append-assoc (recordBytes r) (laid rs) more)
+    ∙ ap₂ {C = List Record} (λ x y. x ∷ y) (record-back r s (f .0) (v .0))
+    (ap (recordsIn (length rs)) (drop-at (recordBytes r) s recordSize (record-length r)) ∙ records-back rs more (f .1) (v .1))
+
+-- the text of an input is `text`, and an array of 65,600 bytes has room for it
+pub record Text (s text : List ℕ) : Type 0 where
+  pub is : dumped s ≡ text
+  pub short : length text ≤ 65600
+
+pub text-put : {n : ℕ} {text before after : List ℕ} (s : List ℕ) → Text s text → Put n text before after
+    → (after ≡ over (dumped s) before) × ((n ≡ length (dumped s)) × (n ≤ 65600))
+text-put {n} {text} {before} {after} s t p =
+    (rw (t .is) (p .out-is), (rw (t .is) (p .size-is), omega (arith, p .size-is, t .short)))
+
+-- the text of an input is that of a message with these counts, whose records are in a table
+pub record Stored (s : List ℕ) (c : Counts) (table : List ℕ) : Type 0 where
+  pub text-is : Text s (messageText c table)
+  pub there : c .records * recordSize ≤ length table
+
+module _ (s front : List ℕ) (front-of : front ≡ take 32768 s) where
+  pub refused-text : (n a : ℕ) → refused n a ≡ decoded sawp 64 1024 front → Text s (refusalText n a)
+  unfolding dumped dumpText dump
+  refused-text n a e = record { is = rw (← front-of, ← e); short = omega (arith, refusal-short n a) }
+
+  module _ (m : Message) (bytes : Bytes front) (e : decoded sawp 64 1024 front ≡ accepted m) where
+    abbrev rs : List Record
+    rs = messageRecords sawp front
+
+    whole : Whole rs
+    whole = sawp-whole 64 1024 front m bytes e
+
+    as-many : m .counts .records ≡ length rs
+    unfolding messageOf
+    as-many = ap (λ (x : Message). x .counts .records) (sym (when-accepted sawp 64 1024 front m e .message-is))
+
+    as-long : m .counts .length ≡ messageLength front
+    unfolding messageOf
+    as-long = ap (λ (x : Message). x .counts .length) (sym (when-accepted sawp 64 1024 front m e .message-is))
+
+    pub accepted-text : (table : List ℕ) → table ≡ laid rs ++ replicate (32768 - length (laid rs)) 0 → Stored s (m .counts) table
+    unfolding dumped dumpText dump
+    accepted-text table t =
+        let a = when-accepted sawp 64 1024 front m e in
+        let lines : recordsText (m .counts .records) table ≡ linesText (recordLines rs) =
+        ap (λ (x : List Record). linesText (recordLines x)) (ap₂ recordsIn as-many t ∙ records-back rs _ (whole .fits) (whole .valued))
+        in
+        let first = line (firstLine (m .counts)) in
+        record {
+          text-is =
+              record {
+                is = rw (← front-of, e) (ap (λ (x : List ℕ). first ++ x) (sym lines));
+                short =
+                    omega (
+                      arith,
+                      length-append first (recordsText (m .counts .records) table),
+                      ap length lines,
+                      records-short rs (whole .fits) (whole .valued),
+                      first-short (m .counts) (omega (arith, as-long, be-small 3 front 1 bytes)) (omega (arith, as-many, a .fits)),
+                      a .fits,
+                    );
+              };
+          there =
+              omega (arith, as-many, ap length t, length-append (laid rs) (replicate (32768 - length (laid rs)) 0), laid-length rs);
+        }

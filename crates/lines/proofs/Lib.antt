@@ -1,0 +1,6 @@
+pub mod Decimals
+pub mod Dumps
+pub mod Lines
+pub mod Puts
+pub mod Records
+pub mod Sizes
