@@ -7,10 +7,12 @@ use mathlib.Core.Bool.{Bool, true, false}
 use mathlib.Core.List.{List, [], _∷_, _++_, append-assoc}
 use native.Mathlib.Omega.{arith}
 use lib.ListN.{length, take, drop, replicate, length-append}
-use lib.Seq.{take-all, drop-at}
+use lib.Seq.{take-all, drop-at, length-take-le}
 use lib.Dec.{leb}
 use borrow.Author.Tests.{leb-true, leb-false}
+use Rattle.io.specs.Counts as io
 use Rattle.octets.specs.Octets.{Bytes, over}
+use Rattle.octets.proofs.Lists.{over-length}
 use Rattle.octets.proofs.Numbers.{be-small}
 use Rattle.rfc6733.specs.Answer.{Answer, accepted, refused}
 use Rattle.rfc6733.specs.Header.{messageLength}
@@ -48,10 +50,12 @@ pub record Text (s text : List ℕ) : Type 0 where
   pub is : dumped s ≡ text
   pub short : length text ≤ 65600
 
-pub text-put : {n : ℕ} {text before after : List ℕ} (s : List ℕ) → Text s text → Put n text before after
-    → (after ≡ over (dumped s) before) × ((n ≡ length (dumped s)) × (n ≤ 65600))
-text-put {n} {text} {before} {after} s t p =
-    (rw (t .is) (p .out-is), (rw (t .is) (p .size-is), omega (arith, p .size-is, t .short)))
+pub text-put : {n : ℕ} {text before after : List ℕ} (s : List ℕ) → length before ≡ 65600 → Text s text → Put n text before after
+    → (after ≡ over (dumped s) before) × ((n ≡ length (dumped s)) × io.Counts n after)
+text-put {n} {text} {before} {after} s size t p =
+    let same : length after ≡ length before = ap length (p .out-is) ∙ over-length text before (omega (arith, t .short)) in
+    let within : n ≤ length after = omega (arith, p .size-is, t .short) in
+    (rw (t .is) (p .out-is), (rw (t .is) (p .size-is), (within, sym (length-take-le n after within))))
 
 -- the text of an input is that of a message with these counts, whose records are in a table
 pub record Stored (s : List ℕ) (c : Counts) (table : List ℕ) : Type 0 where

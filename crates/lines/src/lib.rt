@@ -9,6 +9,7 @@ ghost use mathlib.Core.Path.{_≡_};
 ghost use mathlib.Core.List.{[], _∷_, _++_};
 ghost use Prim.Native.Nat.{_≤_, _<_, min};
 ghost use lib.ListN.{length};
+ghost use Rattle.io.specs.Counts.{Counts};
 ghost use Rattle.octets.specs.Octets.{over};
 ghost use Rattle.rfc6733.specs.Record.{recordAt};
 ghost use Rattle.rfc6733.specs.Dump.{recordLine, decimal, line, dumped};
@@ -120,7 +121,7 @@ fn least(a: usize, b: usize) -> usize
 pub fn dump(input: &[u8], out: &mut [u8; SIZE]) -> usize
     ensures text { λ _. ⌜ now (out .exit) ≡ over (dumped (now (input .entry))) (now (out .entry)) ⌝ }
     ensures size { λ r. ⌜ r ≡ length (dumped (now (input .entry))) ⌝ }
-    ensures within { λ r. ⌜ r ≤ 65600 ⌝ }
+    ensures within { λ r. ⌜ Counts r (now (out .exit)) ⌝ }
 {
     let mut store = [0u8; RECORDS * Record::SIZE];
     let front = least(input.len(), INPUT);

@@ -82,10 +82,10 @@ put-refusal-requires : tie.Need-put-refusal-requires
 put-refusal-requires c κs = omega (arith, refusal-text (c .before .before) .short, c .put-refusal-arg .given .0 .1)
 
 returns : tie.Need-returns
-returns c = text-put _ (message-text (c .before .before .before .before) .text-is) (c .put-message .ensures)
+returns c = text-put _ (c .before .put-message-arg .given .0 .1) (message-text (c .before .before .before .before) .text-is) (c .put-message .ensures)
 
 returns-2 : tie.Need-returns-2
-returns-2 c = text-put _ (refusal-text (c .before .before .before)) (c .put-refusal .ensures)
+returns-2 c = text-put _ (c .before .put-refusal-arg .given .0 .1) (refusal-text (c .before .before .before)) (c .put-refusal .ensures)
 
 pub dump-spec : {M : Type 1} → statement M
 dump-spec =
