@@ -43,6 +43,7 @@ use Rattle.front.proofs.head.Reads as head
 use Rattle.front.proofs.tiles.Reads as tiles
 use Rattle.record.proofs.Record.put.Reads as record-put
 use Rattle.record.proofs.Record.get.Reads as record-get
+use Rattle.record.proofs.Record.read.Reads as record-read
 use Rattle.value.proofs.Value.new.Reads as value-new
 use Rattle.value.proofs.Value.kind.Reads as value-kind
 use Rattle.value.proofs.Value.number.Reads as value-number
@@ -51,6 +52,7 @@ use Rattle.count.proofs.count_run.Reads as count-run
 use Rattle.avps.proofs.parse_avps.Reads as parse-avps
 use Rattle.diameter.proofs.parse.Reads as parse
 use Rattle.diameter.proofs.parse_avp.Reads as parse-avp
+use Rattle.lines.proofs.dump.Reads as dump
 use Rattle.rules.proofs.header_size.Reads as record-header-size
 use Rattle.rules.proofs.keepers.Reads as keepers
 use Rattle.writer.proofs.write.Reads as write
@@ -216,6 +218,9 @@ record-put-one κs a r r′ s s′ p q = (p .0 ∙ sym (q .0), p .1 ∙ sym (q .
 record-get-one : Single record-get.Post
 record-get-one κs a r r′ s p q = record-as-injective r r′ (p ∙ sym q)
 
+record-read-one : Single record-read.Post
+record-read-one κs a r r′ s p q = record-as-injective r r′ (p ∙ sym q)
+
 -- ---- value
 
 value-new-one : Single value-new.Post
@@ -262,6 +267,12 @@ parse-avp-one κs a r r′ s s′ p q =
     let at-exit = p .1 in
     let at-exit′ = q .1 in
     (e, cc)
+
+-- ---- lines: the text, in the second parameter, is told too
+
+dump-one : (κs : _) (a : _) (r r′ : _) (s s′ : _) → dump.Post κs a r s → dump.Post κs a r′ s′
+    → (r ≡ r′) × (now (s .1 .0) ≡ now (s′ .1 .0))
+dump-one κs a r r′ s s′ p q = (p .1 .0 ∙ sym (q .1 .0), p .0 ∙ sym (q .0))
 
 -- ---- rules
 
