@@ -10,7 +10,8 @@ use native.Mathlib.Omega.{arith}
 use lib.ListN.{getD}
 use lib.Dec.{ltb, eqb}
 use borrow.Author.Tests.{ne-eqb, ltb-true, ltb-false}
-use Rattle.rfc6733.specs.Value.{oneOf, unhandled, grouped, time}
+use Rattle.rfc6733.specs.Value.{oneOf}
+use Rattle.record.specs.Kinds.{unhandled, grouped, time}
 use Rattle.rfc6733.specs.Dictionary.{Row, kindIn, baseAvps, sawpAvps, sawp, rfc}
 use Rattle.rfc6733.proofs.Listed.{one-of-append, passed}
 use Rattle.attribute.specs.Attributes.{dictionary, kindTable, kindBy}

@@ -5,7 +5,7 @@ use mathlib.Core.Bool.{cond}
 use mathlib.Core.List.{List, [], _∷_}
 use lib.ListN.{getD}
 use lib.Dec.{eqb}
-use Rattle.rfc6733.specs.Value.{unhandled}
+use Rattle.record.specs.Kinds.{unhandled}
 use Rattle.rfc6733.specs.Dictionary.{Dictionary, sawp, rfc}
 use Rattle.attribute.specs.Tables.{table}
 use Rattle.attribute.specs.declared.AttributeCode.{AttributeCode}

@@ -3,7 +3,8 @@
 use Prim.Native.Nat.{ℕ}
 use mathlib.Core.Bool.{cond}
 use mathlib.Core.List.{List, [], _∷_}
-use Rattle.rfc6733.specs.Value.{oneOf, unhandled, octetString, unsigned32, unsigned64, grouped, enumerated, utf8String, diameterIdentity, diameterURI, address, time}
+use Rattle.rfc6733.specs.Value.{oneOf}
+use Rattle.record.specs.Kinds.{unhandled, octetString, unsigned32, unsigned64, grouped, enumerated, utf8String, diameterIdentity, diameterURI, address, time}
 
 pub record Codes : Type 0 where
   pub kind : ℕ

@@ -3,14 +3,14 @@
 pub mod kinds;
 
 use kinds::CODES;
-use kinds::DIAMETER_IDENTITY;
 use kinds::KINDS;
-use kinds::OCTET_STRING;
-use kinds::UNHANDLED;
+use record::kinds::DIAMETER_IDENTITY;
+use record::kinds::OCTET_STRING;
+use record::kinds::UNHANDLED;
 ghost use mathlib.Core.Path.{_≡_};
 ghost use lib.Dec.{eqb};
 ghost use lib.ListN.{getD};
-ghost use Rattle.rfc6733.specs.Value.{unhandled, grouped};
+ghost use Rattle.record.specs.Kinds.{unhandled, grouped};
 ghost use Rattle.rfc6733.specs.Dictionary.{kindIn, sawpAvps};
 ghost use Rattle.attribute.specs.Attributes.{dictionary, kindTable, kindBy, attributeOf, attributeIn};
 

@@ -1,7 +1,7 @@
 // The AVP: its constants, its flag questions, the size of its header and of its padding.
 // This crate knows numbers alone: `front` reads an AVP.
 ghost use mathlib.Core.Path.{_≡_};
-ghost use Rattle.rfc6733.specs.Flags.{bit};
+ghost use Rattle.flags.specs.Flags.{bit};
 ghost use Rattle.rfc6733.specs.Avp.{vendorBit, mandatoryBit, protectedBit, avpReserved, headSize, padding};
 
 /// The header of one AVP, and its size with its padding.

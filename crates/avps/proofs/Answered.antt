@@ -9,11 +9,12 @@ use native.Mathlib.Omega.{arith}
 use lib.ListN.{length}
 use borrow.Author.Tests.{lt-ltb, le-ltb}
 use Rattle.octets.specs.Run.{Tree, tree}
-use Rattle.rfc6733.specs.Answer.{answer}
+use Rattle.refusal.specs.Answer.{answer}
 use Rattle.rfc6733.specs.Dictionary.{Dictionary}
-use Rattle.rfc6733.specs.Record.{avps, errors, recordCount}
-use Rattle.rfc6733.specs.Decoder.{allowed, limitRefusals, tileRefusals, depthRefusals, roomRefusals, fitRefusals, runRecords, runCounts, runRefusals, stored}
-use Rattle.rfc6733.proofs.Answers.{answer-first}
+use Rattle.rfc6733.specs.Records.{avps, errors, recordCount}
+use Rattle.rfc6733.specs.Decoder.{allowed, limitRefusals, tileRefusals, depthRefusals, roomRefusals, fitRefusals, runRecords, runCounts, runRefusals}
+use Rattle.record.specs.Store.{stored}
+use Rattle.refusal.proofs.Answers.{answer-first}
 use Rattle.rfc6733.proofs.Decoded.{limit-good, more-records, fits}
 use Rattle.rfc6733.proofs.RunRecords.{records-count}
 use Rattle.count.specs.declared.Counted.the-variants as count

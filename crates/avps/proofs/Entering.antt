@@ -11,9 +11,10 @@ use borrow.Author.Tests.{le-leb, eqb-false}
 use Rattle.octets.specs.Run.{done, tree, tiles}
 use Rattle.octets.proofs.Lists.{over-none}
 use Rattle.rfc6733.specs.Value as rfc
-use Rattle.rfc6733.specs.Value.{value, grouped}
+use Rattle.rfc6733.specs.Value.{value}
+use Rattle.record.specs.Kinds.{grouped}
 use Rattle.rfc6733.specs.Dictionary.{Dictionary}
-use Rattle.rfc6733.specs.Record.{avps, tiling, errors, groupValue}
+use Rattle.rfc6733.specs.Records.{avps, tiling, errors, groupValue}
 use Rattle.rfc6733.specs.Entered.{valueIn, entered}
 use Rattle.rfc6733.proofs.Tiling.{tiles-any}
 use Rattle.rfc6733.proofs.KindsRead.{Kind}

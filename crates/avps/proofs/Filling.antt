@@ -13,13 +13,14 @@ use Rattle.octets.specs.Octets.{over}
 use Rattle.octets.specs.Run.{Tree, done, tree, tiles, deepest}
 use Rattle.octets.proofs.Runs.{false-true, tree-none, tree-broken}
 use Rattle.octets.proofs.Lists.{rest, over-none, over-length, over-more, lent}
-use Rattle.rfc6733.specs.Flags.{join}
+use Rattle.flags.specs.Flags.{join}
 use Rattle.rfc6733.specs.Avp.{complete}
 use Rattle.rfc6733.specs.Dictionary.{Dictionary}
-use Rattle.rfc6733.specs.Record.{recordSize, laid, avps, errors, records, recordCount}
-use Rattle.rfc6733.proofs.Joins.{join-assoc, zero-join, join-zero}
+use Rattle.record.specs.Record.{recordSize, laid}
+use Rattle.rfc6733.specs.Records.{avps, errors, records, recordCount}
+use Rattle.flags.proofs.Joins.{join-assoc, zero-join, join-zero}
 use Rattle.rfc6733.proofs.Items.{sound}
-use Rattle.rfc6733.proofs.Layouts.{laid-length, laid-append}
+use Rattle.record.proofs.Layouts.{laid-length, laid-append}
 use Rattle.rfc6733.proofs.RunRecords.{records-count}
 use Rattle.avp.specs.declared.AVP.{AVP}
 use Rattle.avps.specs.declared.fill.Ran.{Ran}

@@ -6,7 +6,8 @@ use mathlib.Core.Path.{_≡_, refl}
 use mathlib.Core.Bool.{false}
 use mathlib.Core.List.{List}
 use lib.Dec.{eqb}
-use Rattle.rfc6733.specs.Value.{Value, grouped, readAs}
+use Rattle.rfc6733.specs.Value.{Value, readAs}
+use Rattle.record.specs.Kinds.{grouped}
 use Rattle.rfc6733.specs.Dictionary.{rfc, sawp}
 use Rattle.rfc6733.proofs.KindsRead.{Kind, kind-read, bare-kind, family-kind}
 use Rattle.attribute.specs.declared.Reading.{Reading}

@@ -10,7 +10,7 @@ use lib.ListN.{length, take, drop}
 use Rattle.octets.specs.Run.{item, after, tree}
 use Rattle.rfc6733.specs.Avp.{complete, Exact}
 use Rattle.rfc6733.specs.Dictionary.{Dictionary}
-use Rattle.rfc6733.specs.Record.{avps}
+use Rattle.rfc6733.specs.Records.{avps}
 use Rattle.rfc6733.proofs.Complete.{complete-whole}
 use Rattle.rfc6733.proofs.Items.{item-same}
 use Rattle.rfc6733.proofs.Alone.{Joined, joined, item-exact}

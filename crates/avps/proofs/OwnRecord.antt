@@ -14,17 +14,18 @@ use borrow.Rule.Slice.PartMut.{putMid}
 use Rattle.octets.specs.Octets.{be, over}
 use Rattle.octets.specs.Run.{tree}
 use Rattle.octets.proofs.Lists.{rest, over-before, lent}
-use Rattle.rfc6733.specs.Flags.{flag, join, nonZeroReserved, nonZeroPadding}
+use Rattle.flags.specs.Flags.{flag, join, nonZeroReserved, nonZeroPadding}
 use Rattle.rfc6733.specs.Avp as avp
 use Rattle.rfc6733.specs.Avp.{headSize, avpReserved, payload, padding, dataSize, Exact}
 use Rattle.rfc6733.specs.Value.{Value}
 use Rattle.rfc6733.specs.Dictionary.{Dictionary}
-use Rattle.rfc6733.specs.Record as rfc
-use Rattle.rfc6733.specs.Record.{recordSize, recordBytes, ownErrors, recordOf, laid, avps, records}
+use Rattle.record.specs.Record as rfc
+use Rattle.record.specs.Record.{recordSize, recordBytes, laid}
+use Rattle.rfc6733.specs.Records.{ownErrors, recordOf, avps, records}
 use Rattle.rfc6733.specs.Entered.{valueIn, entered}
 use Rattle.rfc6733.proofs.Complete.{sizes, complete-whole}
 use Rattle.rfc6733.proofs.Items.{payload-length}
-use Rattle.rfc6733.proofs.Layouts.{record-length}
+use Rattle.record.proofs.Layouts.{record-length}
 use Rattle.rfc6733.proofs.Alone.{exact-tree}
 use Rattle.rfc6733.proofs.Entered.{Made, made}
 use Rattle.avp.specs.declared.AVP.{AVP}

@@ -4,7 +4,8 @@ use Prim.Native.Nat.{ℕ}
 use mathlib.Core.Path.{_≡_}
 use mathlib.Core.List.{List}
 use Rattle.rfc6733.specs.Dictionary.{Dictionary}
-use Rattle.rfc6733.specs.Decoder.{runRecords, stored}
+use Rattle.rfc6733.specs.Decoder.{runRecords}
+use Rattle.record.specs.Store.{stored}
 use Rattle.avps.specs.declared.Filled.{Filled}
 use Rattle.avps.specs.Answers.{answerOf, runAnswer}
 

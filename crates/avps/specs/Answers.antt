@@ -5,8 +5,8 @@ use Prim.Native.Nat.{ℕ, _+_, _-_, _^_}
 use mathlib.Core.List.{List, _∷_, _++_}
 use lib.ListN.{length}
 use lib.Dec.{ltb}
-use Rattle.rfc6733.specs.Answer as rfc
-use Rattle.rfc6733.specs.Answer.{Answer, accepted, refuse, answer}
+use Rattle.refusal.specs.Answer as rfc
+use Rattle.refusal.specs.Answer.{Answer, accepted, refuse, answer}
 use Rattle.rfc6733.specs.Dictionary.{Dictionary}
 use Rattle.rfc6733.specs.Decoder as definition
 use Rattle.rfc6733.specs.Decoder.{limitRefusals, runRefusals, runCounts}

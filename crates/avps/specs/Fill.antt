@@ -8,7 +8,8 @@ use Rattle.octets.specs.Octets.{over}
 use Rattle.octets.specs.Run.{Tree, deepest}
 use Rattle.rfc6733.specs.Avp.{mostDepth}
 use Rattle.rfc6733.specs.Dictionary.{Dictionary}
-use Rattle.rfc6733.specs.Record.{recordSize, laid, errors, records, recordCount}
+use Rattle.record.specs.Record.{recordSize, laid}
+use Rattle.rfc6733.specs.Records.{errors, records, recordCount}
 use Rattle.rfc6733.specs.Entered.{valueIn, entered}
 use Rattle.avps.specs.Answers.{lastPlace}
 use Rattle.avps.specs.declared.fill.Ran.{Ran}

@@ -1,10 +1,10 @@
 // Fills a store with the records of a run that is known to tile and to fit: the run, the AVP and the value call each other in turn.
 use attribute::Reading;
-use attribute::kinds::GROUPED;
 use avp::AVP;
 use flags::ErrorFlags;
 use front::Next;
 use record::Record;
+use record::kinds::GROUPED;
 use value::Value;
 ghost use mathlib.Core.Path.{_≡_};
 ghost use mathlib.Core.Bool.{true, not};
@@ -13,9 +13,9 @@ ghost use lib.ListN.{length};
 ghost use lib.Dec.{eqb};
 ghost use Rattle.octets.specs.Octets.{be};
 ghost use Rattle.octets.specs.Run.{tree, tiles};
-ghost use Rattle.rfc6733.specs.Flags.{join, flag, nonZeroReserved, nonZeroPadding};
+ghost use Rattle.flags.specs.Flags.{join, flag, nonZeroReserved, nonZeroPadding};
 ghost use Rattle.rfc6733.specs.Avp.{Exact, avpReserved};
-ghost use Rattle.rfc6733.specs.Record.{avps};
+ghost use Rattle.rfc6733.specs.Records.{avps};
 ghost use Rattle.rfc6733.specs.Entered.{entered};
 ghost use Rattle.front.specs.Front.{avpOf};
 ghost use Rattle.attribute.specs.Attributes.{dictionary, kindTable};

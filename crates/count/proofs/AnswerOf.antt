@@ -2,7 +2,7 @@
 -- a refusal by its number and amount.
 -- Assumes nothing.
 use mathlib.Core.Path.{_≡_, refl, sym, ap, _∙_}
-use Rattle.rfc6733.specs.Answer.{Answer, accepted, refused}
+use Rattle.refusal.specs.Answer.{Answer, accepted, refused}
 use Rattle.refusal.proofs.Back.{refusal-back, is-back}
 use Rattle.count.specs.declared.Counted.{Counted}
 use Rattle.count.specs.declared.Counted.the-variants.{Fits, Refused}

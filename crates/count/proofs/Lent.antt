@@ -10,7 +10,7 @@ use lib.ListN.{length, take, drop}
 use Rattle.octets.specs.Run.{item, tree}
 use Rattle.rfc6733.specs.Avp.{flags, headSize, dataSize, avpSize, payload, Exact}
 use Rattle.rfc6733.specs.Dictionary.{Dictionary}
-use Rattle.rfc6733.specs.Record.{avps}
+use Rattle.rfc6733.specs.Records.{avps}
 use Rattle.rfc6733.proofs.Complete.{Whole, sizes, complete-whole}
 use Rattle.rfc6733.proofs.Items.{avpsBy, item-same}
 use Rattle.rfc6733.proofs.Alone.{Joined, joined, item-exact}

@@ -11,9 +11,9 @@ use lib.Dec.{ltb}
 use borrow.Author.Tests.{ltb-true, ltb-false, lt-ltb, le-ltb, eq-eqb, ne-eqb}
 use Rattle.octets.specs.Run.{Tree, done, group, tree, tiles, tried, deepest}
 use Rattle.rfc6733.specs.Avp.{payload, Exact}
-use Rattle.rfc6733.specs.Value.{grouped}
+use Rattle.record.specs.Kinds.{grouped}
 use Rattle.rfc6733.specs.Dictionary.{Dictionary}
-use Rattle.rfc6733.specs.Record.{kindOf, avps, recordCount}
+use Rattle.rfc6733.specs.Records.{kindOf, avps, recordCount}
 use Rattle.rfc6733.proofs.Alone.{Joined, exact-tree, alone-plain, alone-group}
 use Rattle.rfc6733.proofs.RunRecords.{count-tried}
 use Rattle.rfc6733.proofs.Tried.{tried-length}

@@ -5,8 +5,8 @@ use mathlib.Core.Bool.{cond}
 use mathlib.Core.List.{_++_}
 use lib.Dec.{ltb}
 use Rattle.octets.specs.Run.{Tree, tiles, tried, deepest}
-use Rattle.rfc6733.specs.Answer.{Answer, accepted, answer}
-use Rattle.rfc6733.specs.Record.{recordCount}
+use Rattle.refusal.specs.Answer.{Answer, accepted, answer}
+use Rattle.rfc6733.specs.Records.{recordCount}
 use Rattle.rfc6733.specs.Decoder.{limitRefusals, tileRefusals, depthRefusals}
 use Rattle.refusal.specs.Refusals.{refusedAs}
 use Rattle.count.specs.declared.Level.{Level}

@@ -7,7 +7,7 @@ use refusal::Refusal;
 ghost use mathlib.Core.Path.{_≡_};
 ghost use Prim.Native.Nat.{_<_};
 ghost use Rattle.octets.specs.Run.{tree};
-ghost use Rattle.rfc6733.specs.Record.{avps};
+ghost use Rattle.rfc6733.specs.Records.{avps};
 ghost use Rattle.rfc6733.specs.Avp.{Exact};
 ghost use Rattle.rfc6733.specs.Decoder.{allowed};
 ghost use Rattle.front.specs.Front.{avpOf};

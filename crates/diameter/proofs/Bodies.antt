@@ -7,15 +7,16 @@ use mathlib.Core.Bool.{true}
 use mathlib.Core.List.{List}
 use native.Mathlib.Omega.{arith}
 use lib.ListN.{take, drop, length-take}
-use Rattle.rfc6733.specs.Answer.{passes, accepted, refused, answer}
-use Rattle.rfc6733.specs.Flags.{join}
+use Rattle.refusal.specs.Answer.{passes, accepted, refused, answer}
+use Rattle.flags.specs.Flags.{join}
 use Rattle.rfc6733.specs.Header as rfc
 use Rattle.rfc6733.specs.Header.{messageLength, headerOf, headerErrors, headerRefusals}
 use Rattle.rfc6733.specs.Dictionary.{Dictionary}
 use Rattle.rfc6733.specs.Decoder as definition
-use Rattle.rfc6733.specs.Decoder.{allowed, headerAlone, runCounts, messageBody, messageRecords, messageOf, decoded, stored}
-use Rattle.rfc6733.proofs.Answers as answers
-use Rattle.rfc6733.proofs.Answers.{passed, answer-alike}
+use Rattle.rfc6733.specs.Decoder.{allowed, headerAlone, runCounts, messageBody, messageRecords, messageOf, decoded}
+use Rattle.record.specs.Store.{stored}
+use Rattle.refusal.proofs.Answers as answers
+use Rattle.refusal.proofs.Answers.{passed, answer-alike}
 use Rattle.rfc6733.proofs.Accepted as accepted-message
 use Rattle.rfc6733.proofs.Accepted.{headed}
 use Rattle.header.specs.declared.Header.{Header}

@@ -11,7 +11,7 @@ use lib.Seq.{length-take-le}
 use Rattle.octets.specs.Run.{Tree, done, node, tree, tiles, item}
 use Rattle.rfc6733.specs.Avp.{payload, avpSize, complete}
 use Rattle.rfc6733.specs.Dictionary.{Dictionary}
-use Rattle.rfc6733.specs.Record.{avps}
+use Rattle.rfc6733.specs.Records.{avps}
 use Rattle.rfc6733.specs.Decoder.{allowed, runRecords, runCounts, aloneRecords, aloneOf, avpAlone}
 use Rattle.rfc6733.proofs.Alone.{alone, exact-tree, item-exact}
 use Rattle.rfc6733.proofs.Complete.{complete-whole}

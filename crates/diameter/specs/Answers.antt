@@ -5,7 +5,7 @@ use mathlib.Core.Path.{_≡_}
 use mathlib.Core.Bool.{true}
 use mathlib.Core.List.{List}
 use Rattle.rfc6733.specs.Avp.{avpSize, complete}
-use Rattle.rfc6733.specs.Answer.{Answer, accepted}
+use Rattle.refusal.specs.Answer.{Answer, accepted}
 use Rattle.rfc6733.specs.Decoder as definition
 use Rattle.refusal.specs.Refusals.{refusedAs}
 use Rattle.header.specs.declared.Header.{Header}

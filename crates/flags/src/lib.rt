@@ -1,7 +1,7 @@
 // The error flags of document 01, a number below 16, and how they join.
 // This crate knows no layout and no reading.
 ghost use mathlib.Core.Path.{_≡_};
-ghost use Rattle.rfc6733.specs.Flags.{flag, join};
+ghost use Rattle.flags.specs.Flags.{flag, join};
 
 /// Flags identify messages which parse successfully but contain invalid data.
 pub enum ErrorFlags {

@@ -2,7 +2,7 @@
 -- its number. So two outcomes with the same answer are the same.
 -- Assumes nothing.
 use mathlib.Core.Path.{_≡_, refl, sym, ap, _∙_}
-use Rattle.rfc6733.specs.Answer.{Answer, accepted, refused}
+use Rattle.refusal.specs.Answer.{Answer, accepted, refused}
 use Rattle.refusal.proofs.Back.{refusal-back, is-back}
 use Rattle.avp.specs.declared.AVP.{AVP}
 use Rattle.front.specs.declared.Front.{Front}

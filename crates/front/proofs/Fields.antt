@@ -8,7 +8,7 @@ use native.Mathlib.Omega.{arith}
 use lib.ListN.{length, getD}
 use Rattle.octets.specs.Octets.{Reads, be}
 use Rattle.octets.proofs.Numbers.{bytes, read-at, one-byte}
-use Rattle.rfc6733.specs.Flags.{bit}
+use Rattle.flags.specs.Flags.{bit}
 use Rattle.rfc6733.specs.Avp.{flags, avpLength, vendorBit, headSize, vendor, dataSize, padding, avpSize}
 use Rattle.rfc6733.proofs.Complete.{Whole, sizes}
 use Rattle.avp.specs.declared.AVP.{AVP}

@@ -11,7 +11,7 @@ use lib.Seq.{drop-drop}
 use Rattle.octets.specs.Run.{item, after}
 use Rattle.octets.proofs.Lists.{rest}
 use Rattle.rfc6733.specs.Avp.{code, flags, avpLength, headSize, vendor, avpSize, avpRefusals, complete}
-use Rattle.rfc6733.proofs.Answers.{passed}
+use Rattle.refusal.proofs.Answers.{passed}
 use Rattle.rfc6733.proofs.Complete as rfc
 use Rattle.rfc6733.proofs.Complete.{head, sizes, complete-whole}
 use Rattle.rfc6733.proofs.Items.{avpsBy}

@@ -11,7 +11,7 @@ use lib.Dec.{ltb}
 use borrow.Author.Tests.{lt-ltb, le-ltb, ltb-true, ltb-false}
 use Rattle.octets.proofs.Runs.{false-true}
 use Rattle.rfc6733.specs.Avp.{flags, avpLength, headSize, avpSize, avpRefusals, complete}
-use Rattle.rfc6733.proofs.Answers.{accepts}
+use Rattle.refusal.proofs.Answers.{accepts}
 use Rattle.rfc6733.proofs.Complete as rfc
 use Rattle.rfc6733.proofs.Complete.{complete-whole, whole-complete}
 use Rattle.refusal.specs.declared.Refusal.the-variants.{Incomplete, BadLength}

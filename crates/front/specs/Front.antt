@@ -3,7 +3,7 @@
 use Prim.Native.Nat.{ℕ}
 use mathlib.Core.Bool.{cond}
 use mathlib.Core.List.{List}
-use Rattle.rfc6733.specs.Answer.{Answer, accepted, answer}
+use Rattle.refusal.specs.Answer.{Answer, accepted, answer}
 use Rattle.rfc6733.specs.Avp as rfc
 use Rattle.refusal.specs.Refusals.{refusedAs}
 use Rattle.avp.specs.declared.AVP.{AVP}

@@ -8,7 +8,7 @@ ghost use mathlib.Core.Path.{_≡_};
 ghost use mathlib.Core.Bool.{false};
 ghost use lib.ListN.{length};
 ghost use Rattle.rfc6733.specs.Avp.{flags, headSize, vendor, complete};
-ghost use Rattle.rfc6733.specs.Record.{tiling};
+ghost use Rattle.rfc6733.specs.Records.{tiling};
 ghost use Rattle.refusal.specs.Refusals.{refusedAs};
 ghost use Rattle.front.specs.Front.{completeOf, answerOf, frontOf};
 

@@ -2,7 +2,7 @@
 -- its seven fields and a refusal by its number. So two outcomes with the same answer are the same.
 -- Assumes nothing.
 use mathlib.Core.Path.{_≡_, refl, sym, ap, _∙_}
-use Rattle.rfc6733.specs.Answer.{Answer, accepted, refused}
+use Rattle.refusal.specs.Answer.{Answer, accepted, refused}
 use Rattle.rfc6733.specs.Header as rfc
 use Rattle.rfc6733.specs.Decoder.{Message}
 use Rattle.refusal.proofs.Back.{refusal-back, is-back}

@@ -10,7 +10,7 @@ use lib.ListN.{length, getD}
 use lib.Dec.{eqb}
 use borrow.Author.Tests.{lt-ltb, le-ltb, eq-eqb, ne-eqb}
 use Rattle.octets.proofs.Numbers.{one-byte}
-use Rattle.rfc6733.specs.Flags.{flag, nonZeroReserved}
+use Rattle.flags.specs.Flags.{flag, nonZeroReserved}
 use Rattle.rfc6733.specs.Header as rfc
 use Rattle.rfc6733.specs.Header.{headerSize, messageLength, headerReserved, headerOf, headerErrors, headerRefusals}
 use Rattle.rfc6733.specs.Decoder.{headerAlone}

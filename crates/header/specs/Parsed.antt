@@ -1,6 +1,6 @@
 -- What reading a header answers, as document 01's answer.
 -- Assumes nothing: these are definitions.
-use Rattle.rfc6733.specs.Answer.{Answer, accepted}
+use Rattle.refusal.specs.Answer.{Answer, accepted}
 use Rattle.rfc6733.specs.Header as rfc
 use Rattle.rfc6733.specs.Decoder.{Message}
 use Rattle.refusal.specs.Refusals.{refusedAs}

@@ -8,7 +8,7 @@ ghost use mathlib.Core.Bool.{not};
 ghost use Prim.Native.Nat.{_≤_};
 ghost use lib.ListN.{length};
 ghost use lib.Dec.{eqb};
-ghost use Rattle.rfc6733.specs.Flags.{bit, flag, nonZeroReserved};
+ghost use Rattle.flags.specs.Flags.{bit, flag, nonZeroReserved};
 ghost use Rattle.rfc6733.specs.Header.{requestBit, proxiableBit, errorBit, retransmittedBit, headerReserved, headerSize, headerOf, avpsLength};
 ghost use Rattle.rfc6733.specs.Decoder.{headerAlone};
 ghost use Rattle.header.specs.Parsed.{headerAs, answerOf};

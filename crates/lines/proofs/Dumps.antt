@@ -14,14 +14,15 @@ use Rattle.io.specs.Counts as io
 use Rattle.octets.specs.Octets.{Bytes, over}
 use Rattle.octets.proofs.Lists.{over-length}
 use Rattle.octets.proofs.Numbers.{be-small}
-use Rattle.rfc6733.specs.Answer.{Answer, accepted, refused}
+use Rattle.refusal.specs.Answer.{Answer, accepted, refused}
 use Rattle.rfc6733.specs.Header.{messageLength}
 use Rattle.rfc6733.specs.Dictionary.{sawp}
-use Rattle.rfc6733.specs.Record.{Record, recordSize, recordBytes, recordAt, laid}
-use Rattle.rfc6733.specs.Decoder.{Counts, Message, messageRecords, messageOf, decoded, stored}
+use Rattle.record.specs.Record.{Record, recordSize, recordBytes, recordAt, laid}
+use Rattle.rfc6733.specs.Decoder.{Counts, Message, runCounts, messageRecords, messageOf, decoded}
+use Rattle.record.specs.Store.{stored}
 use Rattle.rfc6733.specs.Dump.{recordLines, firstLine, line, linesText, dump, dumpText, dumped}
 use Rattle.rfc6733.proofs.Accepted.{when-accepted}
-use Rattle.rfc6733.proofs.Layouts.{record-length, laid-length}
+use Rattle.record.proofs.Layouts.{record-length, laid-length}
 use Rattle.table.specs.Tables.{AllFit}
 use Rattle.table.proofs.Packed.{bytes-take}
 use Rattle.table.proofs.Whole.{AllValued, record-back, Whole, sawp-whole}
@@ -75,7 +76,7 @@ module _ (s front : List ℕ) (front-of : front ≡ take 32768 s) where
     whole = sawp-whole 64 1024 front m bytes e
 
     as-many : m .counts .records ≡ length rs
-    unfolding messageOf
+    unfolding messageOf runCounts messageRecords
     as-many = ap (λ (x : Message). x .counts .records) (sym (when-accepted sawp 64 1024 front m e .message-is))
 
     as-long : m .counts .length ≡ messageLength front

@@ -6,7 +6,7 @@ use mathlib.Core.List.{List, _++_}
 use native.Mathlib.Omega.{arith}
 use lib.ListN.{drop}
 use lib.Seq.{drop-drop}
-use Rattle.rfc6733.specs.Record.{recordSize, recordAt}
+use Rattle.record.specs.Record.{recordSize, recordAt}
 use Rattle.rfc6733.specs.Dump.{recordLine, line}
 use Rattle.lines.specs.Text.{recordsText}
 

@@ -6,9 +6,9 @@ use mathlib.Core.List.{List, [], _∷_, _++_}
 use native.Mathlib.Omega.{arith}
 use lib.ListN.{length, length-append}
 use Rattle.octets.proofs.Layouts.{fit-at}
-use Rattle.rfc6733.specs.Record.{Record, recordLayout}
+use Rattle.record.specs.Record.{Record, recordLayout}
 use Rattle.rfc6733.specs.Decoder.{Counts}
-use Rattle.rfc6733.specs.Writer.{bare}
+use Rattle.record.specs.Table.{bare}
 use Rattle.rfc6733.specs.Dump.{recordLine, recordLines, firstLine, decimal, line, linesText, refusedWord}
 use Rattle.table.specs.Tables.{Fits, AllFit}
 use Rattle.table.proofs.Whole.{Valued, AllValued}

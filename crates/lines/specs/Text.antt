@@ -5,7 +5,7 @@ use mathlib.Core.Path.{_≡_}
 use mathlib.Core.List.{List, [], _∷_, _++_}
 use lib.ListN.{length, drop}
 use Rattle.octets.specs.Octets.{over}
-use Rattle.rfc6733.specs.Record.{Record, recordSize, recordAt}
+use Rattle.record.specs.Record.{Record, recordSize, recordAt}
 use Rattle.rfc6733.specs.Decoder.{Counts}
 use Rattle.rfc6733.specs.Dump.{recordLines, firstLine, line, linesText, refusedWord}
 

@@ -11,7 +11,7 @@ ghost use Prim.Native.Nat.{_≤_, _<_, min};
 ghost use lib.ListN.{length};
 ghost use Rattle.io.specs.Counts.{Counts};
 ghost use Rattle.octets.specs.Octets.{over};
-ghost use Rattle.rfc6733.specs.Record.{recordAt};
+ghost use Rattle.record.specs.Record.{recordAt};
 ghost use Rattle.rfc6733.specs.Dump.{recordLine, decimal, line, dumped};
 ghost use Rattle.refusal.specs.Refusals.{numberOf, amountOf};
 ghost use Rattle.diameter.specs.Answers.{messageAs};

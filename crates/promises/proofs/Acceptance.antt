@@ -1,9 +1,9 @@
 -- An outcome of `diameter::parse` whose answer is an acceptance holds a message, whose counts are the definition's.
 -- Assumes nothing.
 use mathlib.Core.Path.{_≡_, refl, ap}
-use Rattle.rfc6733.specs.Answer.{accepted}
+use Rattle.refusal.specs.Answer.{accepted}
 use Rattle.rfc6733.specs.Decoder as definition
-use Rattle.rfc6733.proofs.Answers.{not-accepted}
+use Rattle.refusal.proofs.Answers.{not-accepted}
 use Rattle.diameter.specs.declared.Message.{Message}
 use Rattle.diameter.specs.declared.Decoded.{Decoded}
 use Rattle.diameter.specs.declared.Decoded.the-variants.{Accepted, Refused}

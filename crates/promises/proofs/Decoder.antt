@@ -7,7 +7,8 @@ use native.Mathlib.Omega.{arith}
 use lib.ListN.{length}
 use contract.Lifetimes.{Lfts}
 use denote.Ref.{now}
-use Rattle.rfc6733.specs.Decoder.{capacity, messageOf, decoded}
+use Rattle.record.specs.Store.{capacity}
+use Rattle.rfc6733.specs.Decoder.{messageOf, decoded}
 use Rattle.rfc6733.specs.Writer.{most24}
 use Rattle.rfc6733.specs.Extremal.{extremal}
 use Rattle.rfc6733.proofs.Extremal.{Reaches}

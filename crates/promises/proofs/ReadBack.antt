@@ -13,14 +13,16 @@ use contract.Lifetimes.{Lfts}
 use denote.Ref.{now}
 use Rattle.octets.specs.Octets.{Bytes, over}
 use Rattle.octets.specs.Run.{Tree, tree, tiles, deepest}
-use Rattle.rfc6733.specs.Answer.{accepted, passes}
+use Rattle.refusal.specs.Answer.{accepted, passes}
 use Rattle.rfc6733.specs.Header.{messageLength, headerRefusals}
 use Rattle.rfc6733.specs.Dictionary.{Dictionary}
-use Rattle.rfc6733.specs.Decoder.{capacity, allowed, messageBody, messageRecords, messageRefusals, messageOf, decoded}
-use Rattle.rfc6733.specs.Record.{avps}
-use Rattle.rfc6733.specs.Forest.{forest}
-use Rattle.rfc6733.specs.Writer.{tableOf, tableBytes, output}
-use Rattle.rfc6733.proofs.Answers.{accepts, passes-append}
+use Rattle.record.specs.Store.{capacity}
+use Rattle.rfc6733.specs.Decoder.{allowed, messageBody, messageRecords, messageRefusals, messageOf, decoded}
+use Rattle.rfc6733.specs.Records.{avps}
+use Rattle.record.specs.Forest.{forest}
+use Rattle.record.specs.Table.{tableOf}
+use Rattle.rfc6733.specs.Writer.{tableBytes, output}
+use Rattle.refusal.proofs.Answers.{accepts, passes-append}
 use Rattle.table.specs.Tops.{tops, topRecords, roots, ofDepth}
 use Rattle.table.proofs.Written.{written-writable}
 use Rattle.table.proofs.ReadBack.{read-back}

@@ -9,9 +9,10 @@ use native.Mathlib.Omega.{arith}
 use lib.ListN.{getD}
 use contract.Lifetimes.{Lfts}
 use denote.Ref.{now}
-use Rattle.rfc6733.specs.Answer.{Answer, accepted, refused}
-use Rattle.rfc6733.specs.Record.{Record}
-use Rattle.rfc6733.specs.Decoder.{Counts, Message, stored}
+use Rattle.refusal.specs.Answer.{Answer, accepted, refused}
+use Rattle.record.specs.Record.{Record}
+use Rattle.rfc6733.specs.Decoder.{Counts, Message}
+use Rattle.record.specs.Store.{stored}
 use Rattle.rfc6733.specs.Writer.{output}
 use Rattle.refusal.specs.declared.Refusal.{Refusal}
 use Rattle.attribute.specs.declared.Reading.{Reading}

@@ -11,14 +11,15 @@ use lib.Seq.{take-at}
 use contract.Lifetimes.{Lfts}
 use denote.Ref.{now}
 use Rattle.octets.specs.Octets.{Bytes, over}
-use Rattle.rfc6733.specs.Answer.{Answer, accepted}
+use Rattle.refusal.specs.Answer.{Answer, accepted}
 use Rattle.rfc6733.specs.Header.{headerOf, messageLength}
-use Rattle.rfc6733.specs.Record.{recordSize, laid}
+use Rattle.record.specs.Record.{recordSize, laid}
 use Rattle.rfc6733.specs.Decoder as definition
-use Rattle.rfc6733.specs.Decoder.{runCounts, decoded, messageRecords, messageOf, stored}
+use Rattle.rfc6733.specs.Decoder.{runCounts, decoded, messageRecords, messageOf}
+use Rattle.record.specs.Store.{stored}
 use Rattle.rfc6733.specs.Writer.{tableBytes, output}
 use Rattle.rfc6733.proofs.Accepted.{when-accepted}
-use Rattle.rfc6733.proofs.Layouts.{laid-length}
+use Rattle.record.proofs.Layouts.{laid-length}
 use Rattle.table.specs.Trip.{fieldsOf, Lawful}
 use Rattle.table.proofs.LeafKinds.{sawp-lawful, rfc-lawful}
 use Rattle.table.proofs.RoundTrip.{round-trip}

@@ -7,7 +7,7 @@ use lib.ListN.{length, getD, drop, replicate}
 use lib.Seq.{getD-drop}
 use Rattle.octets.specs.Octets.{be, over}
 use Rattle.octets.proofs.Numbers.{be-same}
-use Rattle.rfc6733.specs.Record.{recordAt}
+use Rattle.record.specs.Record.{recordAt}
 
 zero-at : (n i : ℕ) → _≡_ {A = ℕ} (getD (replicate n 0) i 0) 0
 zero-at zero i = refl

@@ -1,3 +1,4 @@
+pub mod Layouts
 pub mod Absent
 pub mod Copied
 pub mod Fields

@@ -1,7 +1,7 @@
 -- A contract that says `recordAs r ≡ ..` names one record: its eleven fields can be read back.
 -- Assumes nothing.
 use mathlib.Core.Path.{_≡_, ap}
-use Rattle.rfc6733.specs.Record as rfc
+use Rattle.record.specs.Record as rfc
 use Rattle.record.specs.declared.Record.{Record}
 use Rattle.record.specs.Stored.{recordAs}
 

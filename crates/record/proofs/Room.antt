@@ -10,7 +10,7 @@ use lib.Seq.{sets, sets-eq}
 use lib.Dec.{leb}
 use borrow.Author.Tests.{le-leb, lt-leb}
 use Rattle.octets.specs.Octets.{octets, pack, over}
-use Rattle.rfc6733.specs.Record.{Record, recordSize, layout, recordBytes}
+use Rattle.record.specs.Record.{Record, recordSize, layout, recordBytes}
 use Rattle.record.specs.Stored.{put}
 
 module _ (r : Record) (s : List ℕ) where

@@ -1,1 +1,6 @@
+pub mod Kinds
+pub mod Record
+pub mod Table
+pub mod Forest
+pub mod Store
 pub mod Stored

@@ -6,7 +6,7 @@ use mathlib.Core.List.{List}
 use lib.ListN.{length}
 use lib.Dec.{leb}
 use Rattle.octets.specs.Octets.{over}
-use Rattle.rfc6733.specs.Record as rfc
+use Rattle.record.specs.Record as rfc
 use Rattle.record.specs.declared.Record.{Record}
 
 unfoldable pub recordAs : Record → rfc.Record

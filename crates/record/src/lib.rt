@@ -1,5 +1,7 @@
 // The record of an AVP and its 32 bytes (document 01): written to a store and read from a table.
 // This crate knows the layout, and nothing of how a record comes about.
+pub mod kinds;
+
 ghost use mathlib.Core.Path.{_≡_};
 ghost use mathlib.Core.List.{_++_, reverse};
 ghost use Prim.Native.Nat.{_+_, _≤_, _<_};
@@ -7,8 +9,8 @@ ghost use lib.ListN.{length, take, drop, replicate};
 ghost use lib.Seq.{sets};
 ghost use lib.Dec.{leb};
 ghost use Rattle.octets.specs.Octets.{octets, pack, over};
-ghost use Rattle.rfc6733.specs.Record.{recordSize, layout, recordAt};
-ghost use Rattle.rfc6733.specs.Writer.{entryAt};
+ghost use Rattle.record.specs.Record.{recordSize, layout, recordAt};
+ghost use Rattle.record.specs.Table.{entryAt};
 ghost use Rattle.record.specs.Stored.{recordAs, put};
 
 pub struct Record {

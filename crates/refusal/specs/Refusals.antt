@@ -1,7 +1,7 @@
 -- A refusal of the code as document 01's: its number and its amount.
 -- Assumes nothing: these are definitions.
 use Prim.Native.Nat.{ℕ}
-use Rattle.rfc6733.specs.Answer.{Answer, refused, incomplete, notVersion, badLength, notTiled, tooDeep, noRecords, badDepth, badHeader, badTable, tooLong, noRoom}
+use Rattle.refusal.specs.Answer.{Answer, refused, incomplete, notVersion, badLength, notTiled, tooDeep, noRecords, badDepth, badHeader, badTable, tooLong, noRoom}
 use Rattle.refusal.specs.declared.Refusal.{Refusal}
 use Rattle.refusal.specs.declared.Refusal.the-variants.{Incomplete, NotVersion, BadLength, NotTiled, TooDeep, NoRecords, BadDepth, BadHeader, BadTable, TooLong, NoRoom}
 

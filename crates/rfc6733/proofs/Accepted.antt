@@ -9,13 +9,13 @@ use lib.Dec.{ltb, eqb}
 use borrow.Author.Tests.{eqb-true}
 use Rattle.octets.specs.Octets.{be}
 use Rattle.octets.specs.Run.{tree, tiles, deepest}
-use Rattle.rfc6733.specs.Answer.{accepted, passes}
+use Rattle.refusal.specs.Answer.{accepted, passes}
 use Rattle.rfc6733.specs.Header.{messageLength, headerRefusals}
 use Rattle.rfc6733.specs.Avp.{mostDepth}
 use Rattle.rfc6733.specs.Dictionary.{Dictionary}
-use Rattle.rfc6733.specs.Record.{avps}
+use Rattle.rfc6733.specs.Records.{avps}
 use Rattle.rfc6733.specs.Decoder.{Message, allowed, messageBody, messageRecords, messageRefusals, messageOf, decoded}
-use Rattle.rfc6733.proofs.Answers.{and-true, kept-lt, kept-not, passes-append, passed}
+use Rattle.refusal.proofs.Answers.{and-true, kept-lt, kept-not, passes-append, passed}
 use Rattle.rfc6733.proofs.Decoded.{allowed-most}
 
 pub record Headed (s : List ℕ) : Type 0 where

@@ -10,11 +10,11 @@ use lib.ListN.{length, take, drop, drop-of-length-le}
 use lib.Seq.{take-all}
 use Rattle.octets.specs.Run.{item, after, Tree, done, plain, group, node, tree, tiles, tried, deepest}
 use Rattle.octets.proofs.Runs.{parts, tree-none, tree-step}
-use Rattle.rfc6733.specs.Flags.{join}
+use Rattle.flags.specs.Flags.{join}
 use Rattle.rfc6733.specs.Avp.{avpSize, payload, complete, Exact}
 use Rattle.rfc6733.specs.Dictionary.{Dictionary}
-use Rattle.rfc6733.specs.Record.{avps, errors, records, recordCount}
-use Rattle.rfc6733.proofs.Joins.{join-zero}
+use Rattle.rfc6733.specs.Records.{avps, errors, records, recordCount}
+use Rattle.flags.proofs.Joins.{join-zero}
 use Rattle.rfc6733.proofs.Complete.{complete-whole, whole-complete}
 use Rattle.rfc6733.proofs.Items.{sound, item-same, item-length, item-whole}
 

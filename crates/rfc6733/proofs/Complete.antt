@@ -8,9 +8,9 @@ use mathlib.Core.List.{List}
 use native.Mathlib.Omega.{arith}
 use lib.ListN.{length}
 use lib.Dec.{ltb}
-use Rattle.rfc6733.specs.Flags.{bit}
+use Rattle.flags.specs.Flags.{bit}
 use Rattle.rfc6733.specs.Avp.{flags, avpLength, vendorBit, headSize, dataSize, padding, avpSize, avpRefusals, complete}
-use Rattle.rfc6733.proofs.Answers.{and-true, true-and, kept-lt, lt-kept}
+use Rattle.refusal.proofs.Answers.{and-true, true-and, kept-lt, lt-kept}
 
 -- a header is two or three words
 pub record Head (f : ℕ) : Type 0 where

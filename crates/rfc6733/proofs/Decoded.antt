@@ -9,13 +9,14 @@ use lib.ListN.{length}
 use lib.Dec.{leb}
 use borrow.Author.Tests.{lt-ltb, le-ltb, leb-true}
 use Rattle.octets.specs.Run.{Tree, tree, item, deepest}
-use Rattle.rfc6733.specs.Answer.{accepted, refused, Refusal, answer, passes, tooDeep, noRecords, badDepth}
+use Rattle.refusal.specs.Answer.{accepted, refused, Refusal, answer, passes, tooDeep, noRecords, badDepth}
 use Rattle.rfc6733.specs.Header.{headerSize, headerRefusals}
 use Rattle.rfc6733.specs.Avp.{avpRefusals, mostDepth}
 use Rattle.rfc6733.specs.Dictionary.{Dictionary}
-use Rattle.rfc6733.specs.Record.{Record, avps, recordCount}
+use Rattle.record.specs.Record.{Record}
+use Rattle.rfc6733.specs.Records.{avps, recordCount}
 use Rattle.rfc6733.specs.Decoder.{allowed, limitRefusals, fitRefusals, runRefusals, headerAlone, messageBody, messageRefusals, messageOf, decoded, aloneRecords, aloneRefusals, aloneOf, avpAlone}
-use Rattle.rfc6733.proofs.Answers.{and-true, answer-past, answer-first}
+use Rattle.refusal.proofs.Answers.{and-true, answer-past, answer-first}
 
 -- ---- the limit
 

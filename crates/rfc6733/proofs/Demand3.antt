@@ -6,7 +6,7 @@ use mathlib.Core.Path.{_≡_, refl, ap}
 use mathlib.Core.List.{List}
 use native.Mathlib.Omega.{arith}
 use lib.ListN.{length, drop, length-take}
-use Rattle.rfc6733.specs.Answer.{accepted}
+use Rattle.refusal.specs.Answer.{accepted}
 use Rattle.rfc6733.specs.Header.{messageLength}
 use Rattle.rfc6733.specs.Avp.{mostDepth}
 use Rattle.rfc6733.specs.Dictionary.{Dictionary, sawp, rfc}

@@ -8,14 +8,15 @@ use mathlib.Core.List.{List, _∷_, append-nil}
 use native.Mathlib.Omega.{arith}
 use lib.Dec.{eqb}
 use Rattle.octets.specs.Run.{Tree, done, node, tree, tiles, deepest}
-use Rattle.rfc6733.specs.Flags.{join}
+use Rattle.flags.specs.Flags.{join}
 use Rattle.rfc6733.specs.Avp as avp
-use Rattle.rfc6733.specs.Value.{Value, grouped}
+use Rattle.rfc6733.specs.Value.{Value}
+use Rattle.record.specs.Kinds.{grouped}
 use Rattle.rfc6733.specs.Dictionary.{Dictionary}
-use Rattle.rfc6733.specs.Record.{kindOf, valueOf, ownErrors, recordOf, avps, tiling, errors, groupValue, records, recordCount}
+use Rattle.rfc6733.specs.Records.{kindOf, valueOf, ownErrors, recordOf, avps, tiling, errors, groupValue, records, recordCount}
 use Rattle.rfc6733.specs.Entered.{valueIn, entered}
 use Rattle.rfc6733.proofs.Alone.{alone}
-use Rattle.rfc6733.proofs.Joins.{join-zero}
+use Rattle.flags.proofs.Joins.{join-zero}
 use Rattle.rfc6733.proofs.Tiling.{tiles-any}
 
 pub record Made (D : Dictionary) (a : List ℕ) (t : Tree) (v : Value) (e : Tree) : Type 0 where

@@ -11,17 +11,17 @@ use borrow.Author.Tests.{le-ltb, le-leb, eq-eqb}
 use Rattle.octets.specs.Octets.{be}
 use Rattle.octets.specs.Run.{item, after, Tree, done, broken, group, treeIn, tree, tiles, tried, deepest}
 use Rattle.octets.proofs.Runs.{tree-group}
-use Rattle.rfc6733.specs.Answer.{accepted}
-use Rattle.rfc6733.specs.Flags.{bit}
+use Rattle.refusal.specs.Answer.{accepted}
+use Rattle.flags.specs.Flags.{bit}
 use Rattle.rfc6733.specs.Avp.{headSize, vendor, dataSize, padding, avpSize, payload, avpRefusals, complete, mostDepth}
-use Rattle.rfc6733.specs.Value.{grouped}
+use Rattle.record.specs.Kinds.{grouped}
 use Rattle.rfc6733.specs.Dictionary.{Dictionary}
-use Rattle.rfc6733.specs.Record.{kindOf, avps, records}
+use Rattle.rfc6733.specs.Records.{kindOf, avps, records}
 use Rattle.rfc6733.specs.Decoder.{allowed, runRecords, runCounts, messageBody, messageRefusals, messageOf, decoded}
 use Rattle.rfc6733.specs.Marked.{failing}
 use Rattle.rfc6733.specs.Writer.{most24}
 use Rattle.rfc6733.specs.Extremal.{failingGroups, extremal}
-use Rattle.rfc6733.proofs.Answers.{accepts, passes-append}
+use Rattle.refusal.proofs.Answers.{accepts, passes-append}
 use Rattle.rfc6733.proofs.Complete.{whole-complete}
 use Rattle.rfc6733.proofs.Items.{sound}
 use Rattle.rfc6733.proofs.Messages.{message-read}

@@ -12,7 +12,7 @@ use Rattle.octets.specs.Run.{Format, item}
 use Rattle.octets.proofs.Lists.{part-of-front}
 use Rattle.octets.proofs.Numbers.{be-take}
 use Rattle.octets.proofs.Runs.{Sound}
-use Rattle.rfc6733.specs.Flags.{bit}
+use Rattle.flags.specs.Flags.{bit}
 use Rattle.rfc6733.specs.Avp.{code, flags, avpLength, vendorBit, headSize, vendor, dataSize, padding, avpSize, payload, complete}
 use Rattle.rfc6733.proofs.Complete.{head, Whole, sizes, complete-whole}
 

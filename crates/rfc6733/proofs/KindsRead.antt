@@ -8,8 +8,9 @@ use lib.ListN.{length}
 use lib.Dec.{ltb, eqb}
 use Rattle.octets.specs.Octets.{be}
 use Rattle.rfc3629.specs.Utf8.{wellFormed}
-use Rattle.rfc6733.specs.Flags.{dataValue, dataLength, flag}
-use Rattle.rfc6733.specs.Value.{Value, value, unhandled, integer32, integer64, unsigned32, unsigned64, float32, float64, enumerated, utf8String, diameterIdentity, diameterURI, address, time, fixed, text, oneOf, readAs}
+use Rattle.flags.specs.Flags.{dataValue, dataLength, flag}
+use Rattle.rfc6733.specs.Value.{Value, value, fixed, text, oneOf, readAs}
+use Rattle.record.specs.Kinds.{unhandled, integer32, integer64, unsigned32, unsigned64, float32, float64, enumerated, utf8String, diameterIdentity, diameterURI, address, time}
 use Rattle.rfc6733.specs.Dictionary.{familyAddress, bareAddress}
 
 -- P holds of the kind of v

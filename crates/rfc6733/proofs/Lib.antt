@@ -1,11 +1,7 @@
-pub mod Joins
-pub mod Masks
-pub mod Answers
 pub mod Listed
 pub mod Complete
 pub mod Items
 pub mod Tiling
-pub mod Layouts
 pub mod RunRecords
 pub mod RunErrors
 pub mod Alone

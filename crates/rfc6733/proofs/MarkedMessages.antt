@@ -5,12 +5,12 @@ use mathlib.Core.List.{List, map}
 use Rattle.octets.specs.Octets.{be}
 use Rattle.octets.specs.Run.{item, after, treeIn, tree}
 use Rattle.rfc3629.specs.Utf8.{charSize, wellFormed}
-use Rattle.rfc6733.specs.Flags.{bit, join}
+use Rattle.flags.specs.Flags.{bit, join}
 use Rattle.rfc6733.specs.Header.{headerOf, headerErrors, headerRefusals}
 use Rattle.rfc6733.specs.Avp.{headSize, vendor, dataSize, padding, avpSize, payload, pads, avpRefusals, complete}
 use Rattle.rfc6733.specs.Value.{fixed, text, readAs}
 use Rattle.rfc6733.specs.Dictionary.{familyAddress, bareAddress, rfc, sawp}
-use Rattle.rfc6733.specs.Record.{kindOf, valueOf, ownErrors, recordOf, groupValue}
+use Rattle.rfc6733.specs.Records.{kindOf, valueOf, ownErrors, recordOf, groupValue}
 use Rattle.rfc6733.specs.Decoder.{allowed, runRecords, runCounts, messageBody, messageRecords, messageRefusals, messageOf, decoded}
 use Rattle.rfc6733.specs.Dump.{Dump, dump}
 use Rattle.rfc6733.specs.Marked.{Case, marked, shown}

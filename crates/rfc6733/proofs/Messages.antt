@@ -11,7 +11,7 @@ use lib.Seq.{drop-at, take-all}
 use borrow.Author.Tests.{le-ltb, eq-eqb}
 use Rattle.octets.specs.Octets.{be, field, pack}
 use Rattle.octets.proofs.Numbers.{length-pack, read-field}
-use Rattle.rfc6733.specs.Answer.{passes}
+use Rattle.refusal.specs.Answer.{passes}
 use Rattle.rfc6733.specs.Header.{messageLength, headerRefusals}
 use Rattle.rfc6733.specs.Decoder.{messageBody}
 use Rattle.rfc6733.specs.Writer.{Fields, most24, headerFields, messageBytes}

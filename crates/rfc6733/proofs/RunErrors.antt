@@ -11,12 +11,13 @@ use Rattle.octets.specs.Octets.{be, Bytes}
 use Rattle.octets.specs.Run.{Tree, done, broken, plain, group, tiles}
 use Rattle.octets.proofs.Numbers.{be-small}
 use Rattle.rfc3629.specs.Utf8.{wellFormed}
-use Rattle.rfc6733.specs.Flags.{dataValue, dataLength, nonZeroReserved, nonZeroPadding, flag}
+use Rattle.flags.specs.Flags.{dataValue, dataLength, nonZeroReserved, nonZeroPadding, flag}
 use Rattle.rfc6733.specs.Avp.{flags, avpReserved, payload, pads}
-use Rattle.rfc6733.specs.Value.{Value, value, unhandled, integer32, integer64, unsigned32, unsigned64, float32, float64, enumerated, utf8String, diameterIdentity, diameterURI, address, time, fixed, text, oneOf, readAs}
+use Rattle.rfc6733.specs.Value.{Value, value, fixed, text, oneOf, readAs}
+use Rattle.record.specs.Kinds.{unhandled, integer32, integer64, unsigned32, unsigned64, float32, float64, enumerated, utf8String, diameterIdentity, diameterURI, address, time}
 use Rattle.rfc6733.specs.Dictionary.{Dictionary, familyAddress, bareAddress, rfc, sawp}
-use Rattle.rfc6733.specs.Record.{kindOf, valueOf, ownErrors, errors}
-use Rattle.rfc6733.proofs.Joins.{join-small, flag-small}
+use Rattle.rfc6733.specs.Records.{kindOf, valueOf, ownErrors, errors}
+use Rattle.flags.proofs.Joins.{join-small, flag-small}
 
 -- a value that was read of s: its flags are below 16, and its number fits eight bytes
 pub record Small (s : List ℕ) (v : Value) : Type 0 where

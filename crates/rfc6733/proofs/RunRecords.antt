@@ -12,7 +12,8 @@ use Rattle.octets.specs.Run.{Tree, done, broken, plain, group, tiles, tried}
 use Rattle.rfc6733.specs.Avp as avp
 use Rattle.rfc6733.specs.Value.{Value}
 use Rattle.rfc6733.specs.Dictionary.{Dictionary}
-use Rattle.rfc6733.specs.Record.{Record, valueOf, recordOf, groupValue, records, recordCount}
+use Rattle.record.specs.Record.{Record}
+use Rattle.rfc6733.specs.Records.{valueOf, recordOf, groupValue, records, recordCount}
 
 pub records-count : (D : Dictionary) (place depth : ℕ) (t : Tree) → length (records D place depth t) ≡ recordCount t
 records-count D place depth done = refl

@@ -9,7 +9,7 @@ use Rattle.octets.specs.Run.{item, after, Tree, node, tree, tiles}
 use Rattle.octets.proofs.Runs.{tree-none, tree-step, tree-broken, tree-plain, by-run}
 use Rattle.rfc6733.specs.Avp.{complete}
 use Rattle.rfc6733.specs.Dictionary.{Dictionary}
-use Rattle.rfc6733.specs.Record.{avps, unentered, tiling}
+use Rattle.rfc6733.specs.Records.{avps, unentered, tiling}
 use Rattle.rfc6733.proofs.Items.{sound}
 
 -- a node tiles where its item is complete and what follows tiles

@@ -12,7 +12,7 @@ use Rattle.octets.specs.Run.{item, after, Tree, done, broken, plain, group, nod
 use Rattle.octets.proofs.Runs.{false-true, Parts, tree-none, tree-step, by-run}
 use Rattle.rfc6733.specs.Avp.{flags, headSize, dataSize, padding, avpSize, payload, complete}
 use Rattle.rfc6733.specs.Dictionary.{Dictionary}
-use Rattle.rfc6733.specs.Record.{avps}
+use Rattle.rfc6733.specs.Records.{avps}
 use Rattle.rfc6733.proofs.Complete.{head, Whole, sizes, complete-whole}
 use Rattle.rfc6733.proofs.Items.{sound, item-same, payload-length}
 

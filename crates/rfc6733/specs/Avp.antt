@@ -7,8 +7,8 @@ use mathlib.Core.List.{List, [], _∷_, _++_}
 use lib.ListN.{length, take, drop, getD}
 use lib.Dec.{ltb}
 use Rattle.octets.specs.Octets.{be, Field, Layout, total, fieldsOf, valueAt}
-use Rattle.rfc6733.specs.Answer.{Refusal, refuse, incomplete, badLength, passes}
-use Rattle.rfc6733.specs.Flags.{bit}
+use Rattle.refusal.specs.Answer.{Refusal, refuse, incomplete, badLength, passes}
+use Rattle.flags.specs.Flags.{bit}
 
 -- the header; the last field is there with the vendor bit alone
 pub record Head : Type 0 where

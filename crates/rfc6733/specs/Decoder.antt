@@ -6,12 +6,13 @@ use mathlib.Core.List.{List, [], _∷_, _++_}
 use lib.ListN.{length, take, drop, replicate}
 use lib.Dec.{leb, ltb}
 use Rattle.octets.specs.Run.{Tree, tree, item, tiles, tried, deepest}
-use Rattle.rfc6733.specs.Answer.{Answer, accepted, refused, Refusal, refuse, answer, notTiled, tooDeep, noRecords, badDepth}
-use Rattle.rfc6733.specs.Flags.{join}
+use Rattle.refusal.specs.Answer.{Answer, accepted, refused, Refusal, refuse, answer, notTiled, tooDeep, noRecords, badDepth}
+use Rattle.flags.specs.Flags.{join}
 use Rattle.rfc6733.specs.Header.{Header, headerSize, messageLength, headerOf, headerErrors, headerRefusals}
 use Rattle.rfc6733.specs.Avp.{avpSize, avpRefusals, mostDepth}
 use Rattle.rfc6733.specs.Dictionary.{Dictionary}
-use Rattle.rfc6733.specs.Record.{Record, recordSize, laid, avps, errors, records}
+use Rattle.record.specs.Record.{Record, recordSize, laid}
+use Rattle.rfc6733.specs.Records.{avps, errors, records}
 
 -- what an acceptance returns beside a header: error flags, number of records, headers tried, consumed length
 pub record Counts : Type 0 where
@@ -39,10 +40,6 @@ allowed limit = leb 1 limit && leb limit mostDepth
 
 abbrev pub limitRefusals : ℕ → List Refusal
 limitRefusals limit = refuse (not (allowed limit)) badDepth 0 ∷ []
-
--- how many records a store of n bytes has room for
-abbrev pub capacity : ℕ → ℕ
-capacity n = n / recordSize
 
 -- ---- a run of AVPs, which stands at a place
 
@@ -124,8 +121,3 @@ unfoldable pub avpAlone : Dictionary → ℕ → ℕ → List ℕ → Answer Cou
 avpAlone D limit room s = answer (aloneRefusals D limit room s) (aloneOf D s)
 
 -- ---- the store afterwards
-
--- the records and zero to its last byte where they were accepted, and as lent where not
-unfoldable pub stored : {A : Type 0} → Answer A → List Record → List ℕ → List ℕ
-stored (accepted x) rs store = laid rs ++ replicate (length store - length (laid rs)) 0
-stored (refused n a) rs store = store

@@ -7,8 +7,9 @@ use mathlib.Core.List.{List, [], _∷_}
 use lib.ListN.{length}
 use lib.Dec.{ltb, eqb}
 use Rattle.octets.specs.Octets.{be}
-use Rattle.rfc6733.specs.Flags.{dataLength}
-use Rattle.rfc6733.specs.Value.{Value, value, unhandled, octetString, unsigned32, unsigned64, grouped, enumerated, utf8String, diameterIdentity, diameterURI, address, time}
+use Rattle.flags.specs.Flags.{dataLength}
+use Rattle.rfc6733.specs.Value.{Value, value}
+use Rattle.record.specs.Kinds.{unhandled, octetString, unsigned32, unsigned64, grouped, enumerated, utf8String, diameterIdentity, diameterURI, address, time}
 
 pub record Dictionary : Type 0 where
   -- by the code, and the vendor, which is 0 without the vendor bit

@@ -5,10 +5,10 @@ use mathlib.Core.Bool.{cond}
 use mathlib.Core.List.{List, [], _∷_, _++_}
 use lib.ListN.{take}
 use lib.Dec.{ltb}
-use Rattle.rfc6733.specs.Answer.{Answer, accepted, refused}
+use Rattle.refusal.specs.Answer.{Answer, accepted, refused}
 use Rattle.rfc6733.specs.Avp.{mostDepth}
 use Rattle.rfc6733.specs.Dictionary.{sawp}
-use Rattle.rfc6733.specs.Record.{Record}
+use Rattle.record.specs.Record.{Record}
 use Rattle.rfc6733.specs.Decoder.{Counts, Message, decoded, messageRecords}
 
 -- ---- the lines as numbers

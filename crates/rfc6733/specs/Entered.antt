@@ -6,9 +6,10 @@ use mathlib.Core.Bool.{cond, _&&_}
 use mathlib.Core.List.{List}
 use lib.Dec.{eqb}
 use Rattle.octets.specs.Run.{Tree, done, tree}
-use Rattle.rfc6733.specs.Value.{Value, grouped, readAs}
+use Rattle.rfc6733.specs.Value.{Value, readAs}
+use Rattle.record.specs.Kinds.{grouped}
 use Rattle.rfc6733.specs.Dictionary.{Dictionary}
-use Rattle.rfc6733.specs.Record.{avps, tiling, groupValue}
+use Rattle.rfc6733.specs.Records.{avps, tiling, groupValue}
 
 -- the value, that of a group being its payload's
 unfoldable pub valueIn : Dictionary → ℕ → ℕ → List ℕ → Value

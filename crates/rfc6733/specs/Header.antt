@@ -6,8 +6,8 @@ use mathlib.Core.List.{List, [], _∷_}
 use lib.ListN.{length, getD}
 use lib.Dec.{ltb, eqb}
 use Rattle.octets.specs.Octets.{be, Layout, total, valueAt}
-use Rattle.rfc6733.specs.Flags.{nonZeroReserved, flag}
-use Rattle.rfc6733.specs.Answer.{Refusal, refuse, incomplete, notVersion, badLength}
+use Rattle.flags.specs.Flags.{nonZeroReserved, flag}
+use Rattle.refusal.specs.Answer.{Refusal, refuse, incomplete, notVersion, badLength}
 
 pub record Header : Type 0 where
   pub version : ℕ

@@ -1,14 +1,11 @@
-pub mod Answer
-pub mod Flags
 pub mod Header
 pub mod Avp
 pub mod Value
 pub mod Signed
 pub mod Dictionary
-pub mod Record
+pub mod Records
 pub mod Entered
 pub mod Decoder
-pub mod Forest
 pub mod Writer
 pub mod Dump
 pub mod Marked

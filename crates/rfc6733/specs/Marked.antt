@@ -3,7 +3,7 @@
 use Prim.Native.Nat.{ℕ}
 use mathlib.Core.List.{List, [], _∷_, _++_}
 use lib.ListN.{take, replicate}
-use Rattle.rfc6733.specs.Answer.{incomplete, notVersion, badLength, notTiled, tooDeep, noRecords}
+use Rattle.refusal.specs.Answer.{incomplete, notVersion, badLength, notTiled, tooDeep, noRecords}
 use Rattle.rfc6733.specs.Dictionary.{Dictionary}
 use Rattle.rfc6733.specs.Decoder.{decoded, messageRecords}
 use Rattle.rfc6733.specs.Dump.{Dump, lines, refusal, dump}

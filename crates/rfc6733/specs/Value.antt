@@ -7,53 +7,8 @@ use lib.ListN.{length}
 use lib.Dec.{ltb, eqb}
 use Rattle.octets.specs.Octets.{be}
 use Rattle.rfc3629.specs.Utf8.{wellFormed}
-use Rattle.rfc6733.specs.Flags.{dataValue, dataLength, flag}
-
--- the kinds
-abbrev pub unhandled : ℕ
-unhandled = 0
-
-abbrev pub octetString : ℕ
-octetString = 1
-
-abbrev pub integer32 : ℕ
-integer32 = 2
-
-abbrev pub integer64 : ℕ
-integer64 = 3
-
-abbrev pub unsigned32 : ℕ
-unsigned32 = 4
-
-abbrev pub unsigned64 : ℕ
-unsigned64 = 5
-
-abbrev pub float32 : ℕ
-float32 = 6
-
-abbrev pub float64 : ℕ
-float64 = 7
-
-abbrev pub grouped : ℕ
-grouped = 8
-
-abbrev pub enumerated : ℕ
-enumerated = 9
-
-abbrev pub utf8String : ℕ
-utf8String = 10
-
-abbrev pub diameterIdentity : ℕ
-diameterIdentity = 11
-
-abbrev pub diameterURI : ℕ
-diameterURI = 12
-
-abbrev pub address : ℕ
-address = 13
-
-abbrev pub time : ℕ
-time = 14
+use Rattle.flags.specs.Flags.{dataValue, dataLength, flag}
+use Rattle.record.specs.Kinds.{unhandled, integer32, integer64, unsigned32, unsigned64, float32, float64, enumerated, utf8String, diameterIdentity, diameterURI, address, time}
 
 -- What a reading makes of data: a kind, the error flags that it raises, and the number in a record's value field.
 pub record Value : Type 0 where

@@ -6,13 +6,14 @@ use mathlib.Core.List.{List, [], _∷_, _++_}
 use lib.ListN.{length, take, drop}
 use lib.Dec.{leb, ltb, eqb}
 use Rattle.octets.specs.Octets.{octets, Field, pack, over, fieldsOf}
-use Rattle.rfc6733.specs.Answer.{Answer, accepted, refused, refuse, answer, badHeader, badTable, tooLong, noRoom}
-use Rattle.rfc6733.specs.Flags.{bit}
+use Rattle.refusal.specs.Answer.{Answer, accepted, refused, refuse, answer, badHeader, badTable, tooLong, noRoom}
+use Rattle.flags.specs.Flags.{bit}
 use Rattle.rfc6733.specs.Avp as avp
 use Rattle.rfc6733.specs.Header.{Header, headerLayout}
-use Rattle.rfc6733.specs.Value.{grouped, time}
-use Rattle.rfc6733.specs.Record.{Record, recordSize, recordAt}
-use Rattle.rfc6733.specs.Forest.{Forest, none, node, forest}
+use Rattle.record.specs.Kinds.{grouped, time}
+use Rattle.record.specs.Record.{Record, recordSize, recordAt}
+use Rattle.record.specs.Forest.{Forest, none, node, forest}
+use Rattle.record.specs.Table.{tableOf}
 
 -- the header fields that the writer takes
 pub record Fields : Type 0 where
@@ -23,35 +24,6 @@ pub record Fields : Type 0 where
   pub endId : ℕ
 
 -- ---- the table
-
--- the writer takes neither error flags nor value
-unfoldable pub bare : Record → Record
-bare r =
-    record {
-      code = r .code;
-      flags = r .flags;
-      length = r .length;
-      vendor = r .vendor;
-      place = r .place;
-      depth = r .depth;
-      kind = r .kind;
-      errors = 0;
-      padding = r .padding;
-      pads = r .pads;
-      value = 0;
-    }
-
--- the record at the front of a table, as it takes it
-unfoldable pub entryAt : List ℕ → Record
-entryAt s = bare (recordAt s)
-
--- the first n records of a table
-unfoldable pub recordsIn : ℕ → List ℕ → List Record
-recordsIn zero s = []
-recordsIn (suc n) s = entryAt s ∷ recordsIn n (drop recordSize s)
-
-unfoldable pub tableOf : List ℕ → List Record
-tableOf s = recordsIn (length s / recordSize) s
 
 -- ---- the rules
 

@@ -9,11 +9,12 @@ use lib.ListN.{length, drop, length-drop}
 use lib.Seq.{drop-drop}
 use lib.Dec.{eqb}
 use borrow.Author.Tests.{le-leb, lt-leb, eq-eqb, ne-eqb, not-true, not-false}
-use Rattle.rfc6733.specs.Flags.{bit}
+use Rattle.flags.specs.Flags.{bit}
 use Rattle.rfc6733.specs.Avp.{vendorBit, padding, mostDepth}
-use Rattle.rfc6733.specs.Value.{time}
-use Rattle.rfc6733.specs.Record.{Record, recordSize}
-use Rattle.rfc6733.specs.Writer.{entryAt, tableOf, isGroup, headOf, statedData, keeps, keepers, allowedAfter}
+use Rattle.record.specs.Kinds.{time}
+use Rattle.record.specs.Record.{Record, recordSize}
+use Rattle.record.specs.Table.{entryAt, tableOf}
+use Rattle.rfc6733.specs.Writer.{isGroup, headOf, statedData, keeps, keepers, allowedAfter}
 use Rattle.table.proofs.Rules.{keeps-good}
 use Rattle.table.proofs.Tables.{table-none, table-some}
 use Rattle.rules.specs.Rules.{keepsLeaf}

@@ -3,7 +3,7 @@
 use mathlib.Core.Path.{_≡_, refl, _∙_}
 use mathlib.Core.Bool.{true, false}
 use borrow.Author.Tests.{eq-eqb, ne-eqb}
-use Rattle.rfc6733.specs.Value.{grouped}
+use Rattle.record.specs.Kinds.{grouped}
 use Rattle.rfc6733.specs.Writer.{isGroup}
 use Rattle.record.specs.declared.Record.{Record}
 use Rattle.record.specs.Stored.{recordAs}

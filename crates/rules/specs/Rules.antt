@@ -5,7 +5,7 @@ use mathlib.Core.Bool.{Bool}
 use mathlib.Core.List.{[], _∷_}
 use lib.Dec.{leb, eqb}
 use Rattle.rfc6733.specs.Avp.{padding}
-use Rattle.rfc6733.specs.Record.{Record}
+use Rattle.record.specs.Record.{Record}
 use Rattle.rfc6733.specs.Writer.{headOf, statedData, all}
 
 -- where n bytes are there to point into

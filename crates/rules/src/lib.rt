@@ -1,16 +1,17 @@
 // The rules of a table (document 01, "Numbers returned"): which record is the first to break one.
 // This crate looks at records alone: it knows how many bytes their places may point into, and none of those bytes.
-use attribute::kinds::GROUPED;
-use attribute::kinds::TIME;
 use avp::AVP;
 use record::Record;
+use record::kinds::GROUPED;
+use record::kinds::TIME;
 ghost use mathlib.Core.Path.{_≡_};
 ghost use mathlib.Core.Bool.{_&&_, _||_};
 ghost use Prim.Native.Nat.{_-_, _%_, _^_, _≤_};
 ghost use lib.Dec.{eqb};
-ghost use Rattle.rfc6733.specs.Flags.{bit};
+ghost use Rattle.flags.specs.Flags.{bit};
 ghost use Rattle.rfc6733.specs.Avp.{vendorBit, mostDepth};
-ghost use Rattle.rfc6733.specs.Writer.{tableOf, headOf, keeps, keepers, allowedAfter};
+ghost use Rattle.record.specs.Table.{tableOf};
+ghost use Rattle.rfc6733.specs.Writer.{headOf, keeps, keepers, allowedAfter};
 ghost use Rattle.record.specs.Stored.{recordAs};
 ghost use Rattle.rules.specs.Rules.{keepsLeaf};
 

@@ -12,11 +12,14 @@ use lib.Dec.{eqb}
 use Rattle.octets.specs.Octets.{be, field, pack, Bytes}
 use Rattle.octets.proofs.Numbers.{be-small}
 use Rattle.octets.proofs.Layouts.{pack-unpack}
-use Rattle.rfc6733.specs.Flags.{bit}
+use Rattle.flags.specs.Flags.{bit}
 use Rattle.rfc6733.specs.Avp.{flags, avpLength, vendorBit, headSize, vendor, dataSize, padding, payload, pads, Exact}
-use Rattle.rfc6733.specs.Value.{Value, grouped, time}
-use Rattle.rfc6733.specs.Record.{Record, recordOf}
-use Rattle.rfc6733.specs.Writer.{bare, isGroup, headOf, statedData, avpBytes, headFields, padBytes}
+use Rattle.rfc6733.specs.Value.{Value}
+use Rattle.record.specs.Kinds.{grouped, time}
+use Rattle.record.specs.Record.{Record}
+use Rattle.rfc6733.specs.Records.{recordOf}
+use Rattle.record.specs.Table.{bare}
+use Rattle.rfc6733.specs.Writer.{isGroup, headOf, statedData, avpBytes, headFields, padBytes}
 use Rattle.rfc6733.proofs.Complete.{head, sizes, complete-whole}
 use Rattle.rfc6733.proofs.Items.{payload-length}
 use Rattle.table.specs.Rules.{Good}

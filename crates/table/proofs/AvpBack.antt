@@ -11,10 +11,11 @@ use lib.ListN.{length, getD, take, drop}
 use lib.Seq.{take-at, drop-at, drop-drop}
 use Rattle.octets.specs.Octets.{be, Field, field, pack}
 use Rattle.octets.proofs.Layouts.{fit-at}
-use Rattle.rfc6733.specs.Flags.{bit}
+use Rattle.flags.specs.Flags.{bit}
 use Rattle.rfc6733.specs.Avp.{code, flags, avpLength, vendorBit, headSize, vendor, dataSize, padding, payload, pads, Exact}
-use Rattle.rfc6733.specs.Record.{Record, recordLayout}
-use Rattle.rfc6733.specs.Writer.{bare, isGroup, headOf, avpBytes, headFields, padBytes}
+use Rattle.record.specs.Record.{Record, recordLayout}
+use Rattle.record.specs.Table.{bare}
+use Rattle.rfc6733.specs.Writer.{isGroup, headOf, avpBytes, headFields, padBytes}
 use Rattle.rfc6733.proofs.Complete.{sizes, whole-complete}
 use Rattle.table.specs.Rules.{Good}
 use Rattle.table.specs.Tables.{Fits}

@@ -11,9 +11,10 @@ use lib.Dec.{eqb}
 use Rattle.octets.specs.Octets.{Bytes}
 use Rattle.octets.proofs.Runs.{false-true}
 use Rattle.rfc6733.specs.Avp.{flags, headSize, dataSize, payload, Exact}
-use Rattle.rfc6733.specs.Value.{Value, value, grouped, time}
-use Rattle.rfc6733.specs.Forest as table
-use Rattle.rfc6733.specs.Forest.{Forest, none, flat}
+use Rattle.rfc6733.specs.Value.{Value, value}
+use Rattle.record.specs.Kinds.{grouped, time}
+use Rattle.record.specs.Forest as table
+use Rattle.record.specs.Forest.{Forest, none, flat}
 use Rattle.rfc6733.specs.Writer.{statedData, forestBytes, bodyOf}
 use Rattle.rfc6733.proofs.Complete.{head, sizes, complete-whole}
 use Rattle.rfc6733.proofs.Items.{payload-length}

@@ -13,9 +13,9 @@ use Rattle.octets.proofs.Numbers.{be-front}
 use Rattle.octets.proofs.Runs.{tree-none, tree-step}
 use Rattle.rfc6733.specs.Avp.{flags, avpLength, headSize, dataSize, padding, avpSize, payload, complete, Exact}
 use Rattle.rfc6733.specs.Dictionary.{Dictionary}
-use Rattle.rfc6733.specs.Record.{avps}
-use Rattle.rfc6733.specs.Forest as table
-use Rattle.rfc6733.specs.Forest.{Forest, none, flat}
+use Rattle.rfc6733.specs.Records.{avps}
+use Rattle.record.specs.Forest as table
+use Rattle.record.specs.Forest.{Forest, none, flat}
 use Rattle.rfc6733.specs.Writer.{avpBytes, forestBytes, bodyOf}
 use Rattle.rfc6733.proofs.Complete.{complete-whole, whole-complete}
 use Rattle.rfc6733.proofs.Items.{sound}

@@ -7,7 +7,7 @@ use mathlib.Core.Bool.{Bool, true, false, cond}
 use mathlib.Core.List.{List, [], _∷_}
 use native.Mathlib.Omega.{arith}
 use lib.ListN.{length}
-use Rattle.rfc6733.specs.Record.{Record}
+use Rattle.record.specs.Record.{Record}
 use Rattle.rfc6733.specs.Writer.{keeps, allowedAfter, keepers}
 use Rattle.table.specs.Rules.{Valid}
 use Rattle.table.proofs.Rules.{keeps-good, keeps-at}

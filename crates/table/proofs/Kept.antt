@@ -5,8 +5,8 @@ use mathlib.Core.Bool.{Bool, true, false, cond}
 use mathlib.Core.List.{List, [], _∷_}
 use native.Mathlib.Omega.{arith}
 use lib.Dec.{leb}
-use Rattle.rfc6733.specs.Record.{Record}
-use Rattle.rfc6733.specs.Forest.{Forest, none, node, front, behind, forest}
+use Rattle.record.specs.Record.{Record}
+use Rattle.record.specs.Forest.{Forest, none, node, front, behind, forest}
 use Rattle.rfc6733.specs.Writer.{allowedAfter}
 use Rattle.table.specs.Rules.{Valid, Kept}
 use Rattle.table.proofs.Rules.{keeps-good, good-at}

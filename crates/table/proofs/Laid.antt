@@ -11,9 +11,9 @@ use lib.Seq.{drop-at, getD-drop}
 use Rattle.octets.specs.Octets.{be, Field, field, pack, widths, Bytes, unpack}
 use Rattle.octets.proofs.Numbers.{read-field}
 use Rattle.octets.proofs.Layouts.{unpack-low, low-fit, unpack-fits, fit-at}
-use Rattle.rfc6733.specs.Record.{Record, recordSize, recordLayout, recordBytes, recordAt, laid}
-use Rattle.rfc6733.specs.Writer.{bare, entryAt, recordsIn, tableOf}
-use Rattle.rfc6733.proofs.Layouts.{record-length}
+use Rattle.record.specs.Record.{Record, recordSize, recordLayout, recordBytes, recordAt, laid}
+use Rattle.record.specs.Table.{bare, entryAt, recordsIn, tableOf}
+use Rattle.record.proofs.Layouts.{record-length}
 use Rattle.table.specs.Tables.{Fits, AllFit}
 use Rattle.table.proofs.Tables.{table-some}
 

@@ -9,10 +9,11 @@ use native.Mathlib.Omega.{arith}
 use lib.Dec.{leb, eqb}
 use borrow.Author.Tests.{leb-true}
 use Rattle.rfc6733.specs.Avp.{payload}
-use Rattle.rfc6733.specs.Value.{Value, unhandled, grouped, time}
+use Rattle.rfc6733.specs.Value.{Value}
+use Rattle.record.specs.Kinds.{unhandled, grouped, time}
 use Rattle.rfc6733.specs.Dictionary.{Dictionary, Row, kindIn, baseAvps, sawpAvps, rfc, sawp}
-use Rattle.rfc6733.specs.Record.{kindOf, valueOf}
-use Rattle.rfc6733.proofs.Answers.{and-true}
+use Rattle.rfc6733.specs.Records.{kindOf, valueOf}
+use Rattle.refusal.proofs.Answers.{and-true}
 use Rattle.rfc6733.proofs.KindsRead.{Kind, kind-read, bare-kind, family-kind}
 use Rattle.table.specs.Trip.{Ungrouped, Lawful}
 

@@ -10,11 +10,12 @@ use lib.ListN.{length, drop, length-append, length-drop}
 use lib.Seq.{length-take-le}
 use Rattle.octets.specs.Octets.{field, pack, widths, octets}
 use Rattle.octets.proofs.Numbers.{length-octets, length-pack}
-use Rattle.rfc6733.specs.Flags.{bit}
+use Rattle.flags.specs.Flags.{bit}
 use Rattle.rfc6733.specs.Avp.{vendorBit, headSize, padding}
-use Rattle.rfc6733.specs.Record.{Record}
-use Rattle.rfc6733.specs.Forest.{Forest, none, node, forest}
-use Rattle.rfc6733.specs.Writer.{Fields, tableOf, isGroup, headOf, statedData, avpBytes, forestBytes, messageBytes, tableBytes, headerFields, headFields, padBytes, bodyOf}
+use Rattle.record.specs.Record.{Record}
+use Rattle.record.specs.Forest.{Forest, none, node, forest}
+use Rattle.rfc6733.specs.Writer.{Fields, isGroup, headOf, statedData, avpBytes, forestBytes, messageBytes, tableBytes, headerFields, headFields, padBytes, bodyOf}
+use Rattle.record.specs.Table.{tableOf}
 use Rattle.rfc6733.proofs.Complete.{head}
 use Rattle.table.specs.Forests.{size}
 use Rattle.table.specs.Rules.{Good, Valid, Kept}

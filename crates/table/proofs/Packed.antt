@@ -13,7 +13,7 @@ use Rattle.octets.specs.Octets.{Bytes}
 use Rattle.octets.specs.Run.{item, after}
 use Rattle.rfc6733.specs.Avp.{flags, headSize, dataSize, avpSize, payload}
 use Rattle.rfc6733.specs.Dictionary.{Dictionary}
-use Rattle.rfc6733.specs.Record.{avps}
+use Rattle.rfc6733.specs.Records.{avps}
 
 pub bytes-drop : (k : ℕ) (s : List ℕ) → Bytes s → Bytes (drop k s)
 bytes-drop k s b i = rw (getD-drop k s i 0) (b (k + i))

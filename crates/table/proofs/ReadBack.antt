@@ -9,13 +9,14 @@ use native.Mathlib.Omega.{arith}
 use lib.ListN.{length}
 use Rattle.octets.specs.Octets.{Bytes}
 use Rattle.octets.specs.Run.{tree, tiles}
-use Rattle.rfc6733.specs.Answer.{accepted, passes}
+use Rattle.refusal.specs.Answer.{accepted, passes}
 use Rattle.rfc6733.specs.Header.{messageLength, headerRefusals}
 use Rattle.rfc6733.specs.Dictionary.{Dictionary, sawp}
-use Rattle.rfc6733.specs.Record.{avps}
+use Rattle.rfc6733.specs.Records.{avps}
 use Rattle.rfc6733.specs.Decoder.{messageBody}
-use Rattle.rfc6733.specs.Forest.{forest, flat}
-use Rattle.rfc6733.specs.Writer.{Fields, tableOf, forestBytes, tableBytes, written}
+use Rattle.record.specs.Forest.{forest, flat}
+use Rattle.rfc6733.specs.Writer.{Fields, forestBytes, tableBytes, written}
+use Rattle.record.specs.Table.{tableOf}
 use Rattle.rfc6733.proofs.Messages.{message-read}
 use Rattle.table.specs.Tables.{AllFit}
 use Rattle.table.specs.Tops.{tops, topRecords, roots, ofDepth}

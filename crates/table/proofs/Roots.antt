@@ -7,8 +7,8 @@ use mathlib.Core.List.{List, [], _∷_}
 use native.Mathlib.Omega.{arith}
 use lib.Dec.{leb}
 use borrow.Author.Tests.{leb-true, leb-false, lt-leb, eq-eqb, ne-eqb}
-use Rattle.rfc6733.specs.Record.{Record}
-use Rattle.rfc6733.specs.Forest.{behind, forest}
+use Rattle.record.specs.Record.{Record}
+use Rattle.record.specs.Forest.{behind, forest}
 use Rattle.rfc6733.specs.Writer.{allowedAfter}
 use Rattle.table.specs.Rules.{Good, Valid}
 use Rattle.table.specs.Tops.{roots, ofDepth}

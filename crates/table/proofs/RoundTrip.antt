@@ -11,16 +11,18 @@ use lib.Seq.{length-take-le}
 use Rattle.octets.specs.Octets.{Bytes}
 use Rattle.octets.specs.Run.{tree}
 use Rattle.octets.proofs.Numbers.{be-small}
-use Rattle.rfc6733.specs.Answer.{accepted}
+use Rattle.refusal.specs.Answer.{accepted}
 use Rattle.rfc6733.specs.Header.{headerSize, messageLength, headerOf}
 use Rattle.rfc6733.specs.Dictionary.{Dictionary, sawp, rfc}
-use Rattle.rfc6733.specs.Record.{Record, laid, avps}
+use Rattle.record.specs.Record.{Record, laid}
+use Rattle.rfc6733.specs.Records.{avps}
 use Rattle.rfc6733.specs.Decoder.{Message, runRecords, messageBody, messageRecords, decoded}
-use Rattle.rfc6733.specs.Forest.{Forest, forest, flat}
-use Rattle.rfc6733.specs.Writer.{tableOf, forestBytes, messageBytes, tableBytes, most24, written}
+use Rattle.record.specs.Forest.{Forest, forest, flat}
+use Rattle.record.specs.Table.{tableOf}
+use Rattle.rfc6733.specs.Writer.{forestBytes, messageBytes, tableBytes, most24, written}
 use Rattle.rfc6733.proofs.Accepted.{when-accepted}
-use Rattle.rfc6733.proofs.Layouts.{laid-length}
-use Rattle.rfc6733.specs.Writer.{bare}
+use Rattle.record.proofs.Layouts.{laid-length}
+use Rattle.record.specs.Table.{bare}
 use Rattle.table.specs.Tables.{AllFit}
 use Rattle.table.specs.Trip.{fieldsOf, Lawful, forestOf}
 use Rattle.table.proofs.Packed.{bytes-take, bytes-drop}
@@ -57,10 +59,8 @@ module _ (D : Dictionary) (lawful : Lawful D) (limit room : ℕ) (s : List ℕ) 
       (a .tiled)
 
   pub records-fit : AllFit (messageRecords D s)
-  unfolding messageRecords
-  records-fit =
-      let rs = records D headerSize 1 (messageRun D s) in
-      fit-bare rs (rw (flat-records D headerSize 1 (messageRun D s)) (trip .fits))
+  unfolding messageRecords runRecords
+  records-fit = fit-bare (messageRecords D s) (rw (flat-records D headerSize 1 (tree (avps D) (messageBody s))) (trip .fits))
 
   -- the records in the table are those of the run
   table-is : tableOf (laid (messageRecords D s)) ≡ flat trees

@@ -7,12 +7,12 @@ use mathlib.Core.Bool.{Bool, true, false, cond, _||_}
 use lib.Dec.{leb, eqb}
 use borrow.Author.Tests.{leb-true, le-leb, eqb-true, eq-eqb}
 use Rattle.octets.proofs.Runs.{false-true}
-use Rattle.rfc6733.specs.Flags.{bit}
+use Rattle.flags.specs.Flags.{bit}
 use Rattle.rfc6733.specs.Avp.{vendorBit, padding}
-use Rattle.rfc6733.specs.Value.{time}
-use Rattle.rfc6733.specs.Record.{Record}
+use Rattle.record.specs.Kinds.{time}
+use Rattle.record.specs.Record.{Record}
 use Rattle.rfc6733.specs.Writer.{isGroup, headOf, statedData, keeps}
-use Rattle.rfc6733.proofs.Answers.{and-true, true-and}
+use Rattle.refusal.proofs.Answers.{and-true, true-and}
 use Rattle.table.specs.Rules.{Good}
 
 -- ---- tests that are asked in one case only

@@ -8,9 +8,10 @@ use lib.ListN.{length}
 use Rattle.octets.specs.Run.{Tree, done, broken, plain, group, tiles}
 use Rattle.rfc6733.specs.Avp.{flags, headSize}
 use Rattle.rfc6733.specs.Dictionary.{Dictionary}
-use Rattle.rfc6733.specs.Record.{Record, valueOf, groupValue, recordOf, records}
-use Rattle.rfc6733.specs.Forest.{Forest, none, flat}
-use Rattle.rfc6733.specs.Writer.{bare}
+use Rattle.record.specs.Record.{Record}
+use Rattle.rfc6733.specs.Records.{valueOf, groupValue, recordOf, records}
+use Rattle.record.specs.Forest.{Forest, none, flat}
+use Rattle.record.specs.Table.{bare}
 use Rattle.table.specs.Trip.{forestOf}
 
 cond-map : (f : Record → Record) (b : Bool) (rs : List Record) (t : Forest) → map f rs ≡ flat t → map f (cond b rs []) ≡ flat (cond b t none)

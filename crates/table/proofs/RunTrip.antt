@@ -12,7 +12,7 @@ use Rattle.octets.specs.Run.{item, after, Tree, group, node, tree, tiles, deepe
 use Rattle.octets.proofs.Runs.{false-true, Parts, tree-none, tree-step, by-run}
 use Rattle.rfc6733.specs.Avp.{flags, headSize, payload, complete, Exact}
 use Rattle.rfc6733.specs.Dictionary.{Dictionary}
-use Rattle.rfc6733.specs.Record.{valueOf, groupValue, avps, errors}
+use Rattle.rfc6733.specs.Records.{valueOf, groupValue, avps, errors}
 use Rattle.rfc6733.proofs.Alone.{item-exact}
 use Rattle.rfc6733.proofs.Complete.{sizes, complete-whole}
 use Rattle.rfc6733.proofs.Items.{sound, payload-length}

@@ -6,8 +6,8 @@ use mathlib.Core.Path.{_≡_, refl}
 use mathlib.Core.Bool.{Bool, true, false}
 use mathlib.Core.List.{List, [], _++_, append-assoc, append-nil}
 use native.Mathlib.Omega.{arith}
-use Rattle.rfc6733.specs.Record.{Record}
-use Rattle.rfc6733.specs.Forest.{Forest, none, node, forest, flat}
+use Rattle.record.specs.Record.{Record}
+use Rattle.record.specs.Forest.{Forest, none, node, forest, flat}
 use Rattle.rfc6733.specs.Writer.{isGroup, keeps, allowedAfter}
 use Rattle.table.specs.Rules.{Valid, Kept}
 use Rattle.table.proofs.Rules.{keeps-good, good-at}

@@ -6,8 +6,8 @@ use mathlib.Core.List.{List, [], _∷_}
 use native.Mathlib.Omega.{arith}
 use lib.ListN.{length, drop, length-drop}
 use lib.Seq.{drop-drop}
-use Rattle.rfc6733.specs.Record.{recordSize}
-use Rattle.rfc6733.specs.Writer.{entryAt, recordsIn, tableOf}
+use Rattle.record.specs.Record.{recordSize}
+use Rattle.record.specs.Table.{entryAt, recordsIn, tableOf}
 
 pub table-none : (s : List ℕ) → length s < recordSize → tableOf s ≡ []
 unfolding tableOf recordsIn

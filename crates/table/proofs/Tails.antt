@@ -8,8 +8,8 @@ use native.Mathlib.Omega.{arith}
 use lib.ListN.{drop}
 use lib.Dec.{leb}
 use borrow.Author.Tests.{leb-true, leb-false, le-leb}
-use Rattle.rfc6733.specs.Record.{Record}
-use Rattle.rfc6733.specs.Forest.{Forest, none, node, front, behind, forest}
+use Rattle.record.specs.Record.{Record}
+use Rattle.record.specs.Forest.{Forest, none, node, front, behind, forest}
 use Rattle.rfc6733.specs.Writer.{allowedAfter}
 use Rattle.table.specs.Forests.{count}
 use Rattle.table.specs.Rules.{Valid}

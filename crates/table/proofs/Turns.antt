@@ -8,9 +8,10 @@ use mathlib.Core.List.{List, [], _∷_}
 use native.Mathlib.Omega.{arith}
 use lib.ListN.{length, drop, length-drop}
 use borrow.Author.Tests.{le-leb, lt-leb}
-use Rattle.rfc6733.specs.Record.{Record, recordSize}
-use Rattle.rfc6733.specs.Forest.{none, node, front, forest}
-use Rattle.rfc6733.specs.Writer.{entryAt, tableOf, isGroup, allowedAfter}
+use Rattle.record.specs.Record.{Record, recordSize}
+use Rattle.record.specs.Forest.{none, node, front, forest}
+use Rattle.record.specs.Table.{entryAt, tableOf}
+use Rattle.rfc6733.specs.Writer.{isGroup, allowedAfter}
 use Rattle.table.specs.Forests.{count}
 use Rattle.table.specs.Rules.{Good, Valid}
 use Rattle.table.specs.Tables.{run, one}

@@ -11,16 +11,18 @@ use Rattle.octets.specs.Octets.{Bytes}
 use Rattle.octets.specs.Run.{item, after, Tree, group, node, tree, tiles}
 use Rattle.octets.proofs.Layouts.{value-back, fit-at}
 use Rattle.octets.proofs.Runs.{Parts, tree-none, tree-step, by-run}
-use Rattle.rfc6733.specs.Answer.{accepted}
-use Rattle.rfc6733.specs.Flags.{dataValue}
+use Rattle.refusal.specs.Answer.{accepted}
+use Rattle.flags.specs.Flags.{dataValue}
 use Rattle.rfc6733.specs.Header.{headerSize, messageLength}
 use Rattle.rfc6733.specs.Avp.{flags, headSize, payload, complete}
-use Rattle.rfc6733.specs.Value.{Value, value, unhandled, grouped}
+use Rattle.rfc6733.specs.Value.{Value, value}
+use Rattle.record.specs.Kinds.{unhandled, grouped}
 use Rattle.rfc6733.specs.Dictionary.{Dictionary, sawp}
-use Rattle.rfc6733.specs.Record.{Record, recordLayout, recordBytes, recordAt, avps, ownErrors, valueOf, groupValue, recordOf, errors, records}
-use Rattle.rfc6733.specs.Decoder.{Message, messageBody, messageRun, messageRecords, decoded}
-use Rattle.rfc6733.specs.Writer.{bare}
-use Rattle.rfc6733.proofs.Joins.{join-small}
+use Rattle.record.specs.Record.{Record, recordLayout, recordBytes, recordAt}
+use Rattle.rfc6733.specs.Records.{avps, ownErrors, valueOf, groupValue, recordOf, errors, records}
+use Rattle.rfc6733.specs.Decoder.{Message, runRecords, messageBody, messageRecords, decoded}
+use Rattle.record.specs.Table.{bare}
+use Rattle.flags.proofs.Joins.{join-small}
 use Rattle.rfc6733.proofs.RunErrors.{Small, own-small, value-small, errors-small, bare-small}
 use Rattle.rfc6733.proofs.Items.{sound}
 use Rattle.table.specs.Tables.{Fits, AllFit}
@@ -108,7 +110,7 @@ pub record Whole (rs : List Record) : Type 0 where
   pub valued : AllValued rs
 
 pub sawp-whole : (limit room : ℕ) (s : List ℕ) (m : Message) → Bytes s → decoded sawp limit room s ≡ accepted m → Whole (messageRecords sawp s)
-unfolding messageRecords messageRun messageBody sawp
+unfolding messageRecords runRecords messageBody sawp
 sawp-whole limit room s m b e =
     record {
       fits = records-fit sawp sawp-lawful limit room s m b e;

@@ -10,10 +10,11 @@ use lib.ListN.{length}
 use lib.Dec.{ltb, eqb}
 use borrow.Author.Tests.{ltb-false, le-ltb, eqb-true, eq-eqb, not-true, not-false}
 use Rattle.octets.proofs.Runs.{false-true}
-use Rattle.rfc6733.specs.Answer.{accepted, Refusal, refuse, badHeader, badTable, tooLong, noRoom}
-use Rattle.rfc6733.specs.Record.{recordSize}
-use Rattle.rfc6733.specs.Writer.{Fields, tableOf, keepers, tableBytes, most24, written}
-use Rattle.rfc6733.proofs.Answers.{and-true, kept-lt, passed}
+use Rattle.refusal.specs.Answer.{accepted, Refusal, refuse, badHeader, badTable, tooLong, noRoom}
+use Rattle.record.specs.Record.{recordSize}
+use Rattle.rfc6733.specs.Writer.{Fields, keepers, tableBytes, most24, written}
+use Rattle.record.specs.Table.{tableOf}
+use Rattle.refusal.proofs.Answers.{and-true, kept-lt, passed}
 use Rattle.table.specs.Rules.{Valid}
 use Rattle.table.proofs.Keepers.{keepers-valid, valid-keepers, keepers-most}
 use Rattle.table.proofs.Tables.{table-length}

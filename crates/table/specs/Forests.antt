@@ -2,7 +2,7 @@
 -- Assumes nothing: these are definitions.
 use Prim.Native.Nat.{ℕ, _+_}
 use mathlib.Core.Bool.{cond}
-use Rattle.rfc6733.specs.Forest.{Forest, none, node}
+use Rattle.record.specs.Forest.{Forest, none, node}
 use Rattle.rfc6733.specs.Writer.{isGroup, headOf, statedData}
 
 abbrev pub count : Forest → ℕ

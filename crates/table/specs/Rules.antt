@@ -4,11 +4,11 @@ use Prim.Native.Nat.{ℕ, _+_, _-_, _%_, _^_, _≤_}
 use mathlib.Core.Path.{_≡_}
 use mathlib.Core.Bool.{true, false}
 use mathlib.Core.List.{List, [], _∷_}
-use Rattle.rfc6733.specs.Flags.{bit}
+use Rattle.flags.specs.Flags.{bit}
 use Rattle.rfc6733.specs.Avp.{vendorBit, padding}
-use Rattle.rfc6733.specs.Value.{time}
-use Rattle.rfc6733.specs.Record.{Record}
-use Rattle.rfc6733.specs.Forest.{Forest, none, node}
+use Rattle.record.specs.Kinds.{time}
+use Rattle.record.specs.Record.{Record}
+use Rattle.record.specs.Forest.{Forest, none, node}
 use Rattle.rfc6733.specs.Writer.{isGroup, headOf, statedData, keeps, allowedAfter}
 
 -- a group has no padding of its own

@@ -3,9 +3,9 @@
 use Prim.Native.Nat.{ℕ}
 use mathlib.Core.List.{List, [], _∷_}
 use Rattle.octets.specs.Octets.{Fit}
-use Rattle.rfc6733.specs.Record.{Record, recordLayout}
-use Rattle.rfc6733.specs.Forest.{Forest, front, forest}
-use Rattle.rfc6733.specs.Writer.{bare, tableOf}
+use Rattle.record.specs.Record.{Record, recordLayout}
+use Rattle.record.specs.Forest.{Forest, front, forest}
+use Rattle.record.specs.Table.{bare, tableOf}
 use Rattle.table.specs.Forests.{first}
 
 -- the numbers that the writer takes of a record fit their widths

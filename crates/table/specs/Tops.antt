@@ -6,8 +6,8 @@ use mathlib.Core.List.{List, [], _∷_}
 use lib.Dec.{eqb}
 use Rattle.octets.specs.Run.{Tree, done, broken, plain, group}
 use Rattle.rfc6733.specs.Avp as avp
-use Rattle.rfc6733.specs.Record.{Record}
-use Rattle.rfc6733.specs.Forest.{Forest, none, node}
+use Rattle.record.specs.Record.{Record}
+use Rattle.record.specs.Forest.{Forest, none, node}
 use Rattle.rfc6733.specs.Writer.{forestBytes, bodyOf}
 
 pub record Top : Type 0 where

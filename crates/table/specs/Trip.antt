@@ -9,13 +9,14 @@ use lib.Dec.{eqb}
 use Rattle.octets.specs.Run.{Tree, done, broken, plain, group, tiles}
 use Rattle.rfc6733.specs.Header.{Header}
 use Rattle.rfc6733.specs.Avp.{flags, headSize}
-use Rattle.rfc6733.specs.Value.{Value, grouped, time}
+use Rattle.rfc6733.specs.Value.{Value}
+use Rattle.record.specs.Kinds.{grouped, time}
 use Rattle.rfc6733.specs.Dictionary.{Dictionary}
-use Rattle.rfc6733.specs.Record.{valueOf, groupValue, recordOf}
-use Rattle.rfc6733.specs.Forest as table
-use Rattle.rfc6733.specs.Forest.{Forest, none}
+use Rattle.rfc6733.specs.Records.{valueOf, groupValue, recordOf}
+use Rattle.record.specs.Forest as table
+use Rattle.record.specs.Forest.{Forest, none}
 use Rattle.rfc6733.specs.Writer.{Fields}
-use Rattle.rfc6733.specs.Writer.{bare}
+use Rattle.record.specs.Table.{bare}
 
 -- the writer sets version and length itself
 unfoldable pub fieldsOf : Header → Fields

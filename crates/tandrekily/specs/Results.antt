@@ -5,9 +5,10 @@ use Prim.Native.Nat.{ℕ}
 use mathlib.Core.Bool.{Bool, true, false}
 use mathlib.Core.List.{List, [], _∷_}
 use lib.ListN.{length}
-use Rattle.rfc6733.specs.Answer.{Answer, accepted, refused}
+use Rattle.refusal.specs.Answer.{Answer, accepted, refused}
 use Rattle.rfc6733.specs.Header.{Header}
-use Rattle.rfc6733.specs.Decoder.{Counts, Message, capacity, decoded, messageRecords, avpAlone, aloneRecords, stored}
+use Rattle.rfc6733.specs.Decoder.{Counts, Message, decoded, messageRecords, avpAlone, aloneRecords}
+use Rattle.record.specs.Store.{capacity, stored}
 use Rattle.rfc6733.specs.Writer.{Fields, written, tableBytes, output}
 use Rattle.attribute.specs.Attributes.{dictionary}
 use Rattle.attribute.specs.declared.Reading.{Reading}

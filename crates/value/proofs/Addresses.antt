@@ -8,7 +8,7 @@ use native.Mathlib.Omega.{arith}
 use lib.ListN.{length}
 use borrow.Author.Tests.{lt-ltb, le-ltb, eq-eqb, ne-eqb}
 use Rattle.octets.specs.Octets.{be}
-use Rattle.rfc6733.specs.Flags.{dataLength}
+use Rattle.flags.specs.Flags.{dataLength}
 use Rattle.rfc6733.specs.Dictionary.{bareAddress, familyAddress}
 use Rattle.value.specs.declared.Value.the-variants.{Unhandled, Address}
 use Rattle.value.specs.declared.IpAddr.the-variants.{V4, V6}

@@ -11,7 +11,8 @@ use types.Run.{OneOf}
 use lib.Dec.{leb, eqb}
 use borrow.Author.Tests.{eqb-true, leb-true}
 use Rattle.octets.proofs.Runs.{false-true}
-use Rattle.rfc6733.specs.Value.{oneOf, unhandled, time}
+use Rattle.rfc6733.specs.Value.{oneOf}
+use Rattle.record.specs.Kinds.{unhandled, time}
 use Rattle.rfc6733.proofs.Listed.{one-of-append, Unlisted, unlisted}
 use Rattle.value.specs.Values.{kinds32, kinds64, known}
 

@@ -7,11 +7,12 @@ use mathlib.Core.List.{List, [], _∷_}
 use types.Run.{OneOf}
 use lib.Dec.{eqb}
 use Rattle.rfc3629.specs.Utf8.{wellFormed}
-use Rattle.rfc6733.specs.Flags.{dataValue}
+use Rattle.flags.specs.Flags.{dataValue}
 use Rattle.rfc6733.specs.Value as rfc
-use Rattle.rfc6733.specs.Value.{value, unhandled, octetString, grouped, utf8String, diameterIdentity, diameterURI, address, fixed, text}
+use Rattle.rfc6733.specs.Value.{value, fixed, text}
+use Rattle.record.specs.Kinds.{unhandled, octetString, grouped, utf8String, diameterIdentity, diameterURI, address}
 use Rattle.rfc6733.specs.Dictionary.{Dictionary}
-use Rattle.rfc6733.specs.Record.{tiling}
+use Rattle.rfc6733.specs.Records.{tiling}
 use Rattle.value.specs.declared.Value.{Value}
 use Rattle.value.specs.declared.Value.the-variants.{Unhandled, OctetString, Grouped}
 use Rattle.value.specs.declared.Read.{Read}

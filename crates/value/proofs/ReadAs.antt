@@ -6,6 +6,7 @@ use mathlib.Core.Path.{_≡_, refl, sym, ap, ap₂, _∙_}
 use mathlib.Core.Bool.{cond}
 use mathlib.Core.List.{List}
 use lib.Dec.{eqb}
+use Rattle.record.specs.Kinds as kinds
 use Rattle.rfc6733.specs.Value as rfc
 use Rattle.value.specs.declared.Value.{Value}
 use Rattle.value.specs.declared.Value.the-variants.{Unhandled, OctetString, Integer32, Integer64, Unsigned32, Unsigned64, Float32, Float64, Grouped, Enumerated, UTF8String, DiameterIdentity, DiameterURI, Address, Time}
@@ -16,20 +17,20 @@ use Rattle.value.specs.Values.{kindOf, numberOf, readAs, addressOf, Show
 -- the value of a kind and a number, or of an address
 abbrev value-back : ℕ → ℕ → IpAddr → Value
 value-back k n a =
-    cond (eqb k rfc.octetString) OctetString
-    (cond (eqb k rfc.integer32) (Integer32 n)
-    (cond (eqb k rfc.integer64) (Integer64 n)
-    (cond (eqb k rfc.unsigned32) (Unsigned32 n)
-    (cond (eqb k rfc.unsigned64) (Unsigned64 n)
-    (cond (eqb k rfc.float32) (Float32 n)
-    (cond (eqb k rfc.float64) (Float64 n)
-    (cond (eqb k rfc.grouped) Grouped
-    (cond (eqb k rfc.enumerated) (Enumerated n)
-    (cond (eqb k rfc.utf8String) UTF8String
-    (cond (eqb k rfc.diameterIdentity) DiameterIdentity
-    (cond (eqb k rfc.diameterURI) DiameterURI
-    (cond (eqb k rfc.address) (Address a)
-    (cond (eqb k rfc.time) (Time n)
+    cond (eqb k kinds.octetString) OctetString
+    (cond (eqb k kinds.integer32) (Integer32 n)
+    (cond (eqb k kinds.integer64) (Integer64 n)
+    (cond (eqb k kinds.unsigned32) (Unsigned32 n)
+    (cond (eqb k kinds.unsigned64) (Unsigned64 n)
+    (cond (eqb k kinds.float32) (Float32 n)
+    (cond (eqb k kinds.float64) (Float64 n)
+    (cond (eqb k kinds.grouped) Grouped
+    (cond (eqb k kinds.enumerated) (Enumerated n)
+    (cond (eqb k kinds.utf8String) UTF8String
+    (cond (eqb k kinds.diameterIdentity) DiameterIdentity
+    (cond (eqb k kinds.diameterURI) DiameterURI
+    (cond (eqb k kinds.address) (Address a)
+    (cond (eqb k kinds.time) (Time n)
     Unhandled)))))))))))))
 
 value-is-back : (v : Value) (a : IpAddr) → ((b : IpAddr) → v ≡ Address b → b ≡ a) → value-back (kindOf v) (numberOf v) a ≡ v

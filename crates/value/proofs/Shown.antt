@@ -10,9 +10,10 @@ use lib.Dec.{ltb, eqb}
 use borrow.Author.Tests.{lt-ltb, le-ltb, eqb-false}
 use Rattle.octets.specs.Octets.{be, Reads}
 use Rattle.octets.proofs.Numbers.{bytes, read-at}
-use Rattle.rfc6733.specs.Flags.{dataValue, dataLength, flag}
+use Rattle.flags.specs.Flags.{dataValue, dataLength, flag}
 use Rattle.rfc6733.specs.Value as rfc
-use Rattle.rfc6733.specs.Value.{value, address, unhandled, fixed}
+use Rattle.rfc6733.specs.Value.{value, fixed}
+use Rattle.record.specs.Kinds.{address, unhandled}
 use Rattle.value.specs.declared.Value.{Value}
 use Rattle.value.specs.declared.Value.the-variants.{Unhandled, Address}
 use Rattle.value.specs.declared.IpAddr.{IpAddr}

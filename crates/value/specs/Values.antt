@@ -6,10 +6,11 @@ use mathlib.Core.Bool.{cond}
 use mathlib.Core.List.{List, [], _∷_}
 use lib.ListN.{length}
 use lib.Dec.{leb, ltb, eqb}
-use Rattle.rfc6733.specs.Flags.{dataValue}
+use Rattle.flags.specs.Flags.{dataValue}
+use Rattle.record.specs.Kinds as kinds
 use Rattle.rfc6733.specs.Value as rfc
 use Rattle.rfc6733.specs.Dictionary.{Dictionary}
-use Rattle.rfc6733.specs.Record.{tiling}
+use Rattle.rfc6733.specs.Records.{tiling}
 use Rattle.value.specs.declared.Value.{Value}
 use Rattle.value.specs.declared.Value.the-variants.{Unhandled, OctetString, Integer32, Integer64, Unsigned32, Unsigned64, Float32, Float64, Grouped, Enumerated, UTF8String, DiameterIdentity, DiameterURI, Address, Time}
 use Rattle.value.specs.declared.IpAddr.{IpAddr}
@@ -18,21 +19,21 @@ use Rattle.value.specs.declared.Read.{Read}
 
 -- the kind of a value
 abbrev pub kindOf : Value → ℕ
-kindOf Unhandled = rfc.unhandled
-kindOf OctetString = rfc.octetString
-kindOf (Integer32 n) = rfc.integer32
-kindOf (Integer64 n) = rfc.integer64
-kindOf (Unsigned32 n) = rfc.unsigned32
-kindOf (Unsigned64 n) = rfc.unsigned64
-kindOf (Float32 n) = rfc.float32
-kindOf (Float64 n) = rfc.float64
-kindOf Grouped = rfc.grouped
-kindOf (Enumerated n) = rfc.enumerated
-kindOf UTF8String = rfc.utf8String
-kindOf DiameterIdentity = rfc.diameterIdentity
-kindOf DiameterURI = rfc.diameterURI
-kindOf (Address a) = rfc.address
-kindOf (Time n) = rfc.time
+kindOf Unhandled = kinds.unhandled
+kindOf OctetString = kinds.octetString
+kindOf (Integer32 n) = kinds.integer32
+kindOf (Integer64 n) = kinds.integer64
+kindOf (Unsigned32 n) = kinds.unsigned32
+kindOf (Unsigned64 n) = kinds.unsigned64
+kindOf (Float32 n) = kinds.float32
+kindOf (Float64 n) = kinds.float64
+kindOf Grouped = kinds.grouped
+kindOf (Enumerated n) = kinds.enumerated
+kindOf UTF8String = kinds.utf8String
+kindOf DiameterIdentity = kinds.diameterIdentity
+kindOf DiameterURI = kinds.diameterURI
+kindOf (Address a) = kinds.address
+kindOf (Time n) = kinds.time
 
 -- an IPv4 address is a number; an IPv6 address stays in the input
 abbrev pub addressNumber : IpAddr → ℕ
@@ -63,10 +64,10 @@ readAs r = rfc.value (kindOf (r .value)) (r .errors) (numberOf (r .value))
 
 -- the kinds of numbers of 32 and of 64 bits
 abbrev pub kinds32 : List ℕ
-kinds32 = rfc.integer32 ∷ rfc.unsigned32 ∷ rfc.float32 ∷ rfc.enumerated ∷ rfc.time ∷ []
+kinds32 = kinds.integer32 ∷ kinds.unsigned32 ∷ kinds.float32 ∷ kinds.enumerated ∷ kinds.time ∷ []
 
 abbrev pub kinds64 : List ℕ
-kinds64 = rfc.integer64 ∷ rfc.unsigned64 ∷ rfc.float64 ∷ []
+kinds64 = kinds.integer64 ∷ kinds.unsigned64 ∷ kinds.float64 ∷ []
 
 -- an IPv6 address takes 16 bytes. Fewer hold an IPv4 address, whose number is n
 abbrev pub addressOf : List ℕ → ℕ → IpAddr
@@ -80,11 +81,11 @@ pub record Shows (v : rfc.Value) (s : List ℕ) (r : Read) : Type 0 where
 
 -- a number that is no kind counts as Unhandled
 abbrev pub known : ℕ → ℕ
-known k = cond (leb k rfc.time) k rfc.unhandled
+known k = cond (leb k kinds.time) k kinds.unhandled
 
 -- data as the kind k. Of a group it is only asked whether its members tile: their flags are their own
 unfoldable pub newValue : Dictionary → ℕ → List ℕ → rfc.Value
 newValue D k s =
-    cond (eqb k rfc.grouped)
-    (cond (tiling s) (rfc.value rfc.grouped 0 0) (rfc.value rfc.unhandled dataValue 0))
+    cond (eqb k kinds.grouped)
+    (cond (tiling s) (rfc.value kinds.grouped 0 0) (rfc.value kinds.unhandled dataValue 0))
     (rfc.readAs (D .asAddress) k s)

@@ -1,27 +1,27 @@
 // What an AVP's data are: a typed value with its error flags, in both readings.
 // This crate knows the data of one AVP, and nothing of records or of nesting.
 use attribute::Reading;
-use attribute::kinds::ADDRESS;
-use attribute::kinds::DIAMETER_IDENTITY;
-use attribute::kinds::DIAMETER_URI;
-use attribute::kinds::ENUMERATED;
-use attribute::kinds::FLOAT32;
-use attribute::kinds::FLOAT64;
-use attribute::kinds::GROUPED;
-use attribute::kinds::INTEGER32;
-use attribute::kinds::INTEGER64;
-use attribute::kinds::OCTET_STRING;
-use attribute::kinds::TIME;
-use attribute::kinds::UNHANDLED;
-use attribute::kinds::UNSIGNED32;
-use attribute::kinds::UNSIGNED64;
-use attribute::kinds::UTF8_STRING;
 use flags::ErrorFlags;
+use record::kinds::ADDRESS;
+use record::kinds::DIAMETER_IDENTITY;
+use record::kinds::DIAMETER_URI;
+use record::kinds::ENUMERATED;
+use record::kinds::FLOAT32;
+use record::kinds::FLOAT64;
+use record::kinds::GROUPED;
+use record::kinds::INTEGER32;
+use record::kinds::INTEGER64;
+use record::kinds::OCTET_STRING;
+use record::kinds::TIME;
+use record::kinds::UNHANDLED;
+use record::kinds::UNSIGNED32;
+use record::kinds::UNSIGNED64;
+use record::kinds::UTF8_STRING;
 ghost use mathlib.Core.Path.{_≡_};
 ghost use mathlib.Core.Bool.{true, cond};
 ghost use Rattle.rfc6733.specs.Dictionary.{bareAddress, familyAddress};
 ghost use Rattle.rfc6733.specs.Value.{oneOf, fixed};
-ghost use Rattle.rfc6733.specs.Flags.{dataValue};
+ghost use Rattle.flags.specs.Flags.{dataValue};
 ghost use Rattle.attribute.specs.Attributes.{dictionary};
 ghost use Rattle.value.specs.Values.{kindOf, addressNumber, numberOf, readAs, kinds32, kinds64, Shows, known, newValue};
 

@@ -10,7 +10,7 @@ use borrow.Rule.Slice.PartMut.{putMid}
 use Rattle.octets.specs.Octets.{pack, over}
 use Rattle.octets.proofs.Lists.{rest, lent, copied, over-more}
 use Rattle.rfc6733.specs.Avp.{padding}
-use Rattle.rfc6733.specs.Record.{Record}
+use Rattle.record.specs.Record.{Record}
 use Rattle.rfc6733.specs.Writer.{headOf, statedData, avpBytes, headFields, padBytes}
 use Rattle.table.specs.Rules.{Leaf}
 use Rattle.table.proofs.Lengths.{head-low, head-length, avp-length}

@@ -10,9 +10,10 @@ use lib.ListN.{length, take, drop, length-append, length-drop}
 use borrow.Rule.Slice.PartMut.{putMid}
 use Rattle.octets.specs.Octets.{pack, over}
 use Rattle.octets.proofs.Lists.{over-length, over-none, over-more, over-before, lent}
-use Rattle.rfc6733.specs.Record.{Record, recordSize}
-use Rattle.rfc6733.specs.Forest.{Forest, none, node}
-use Rattle.rfc6733.specs.Writer.{entryAt, tableOf, isGroup, headOf, avpBytes, forestBytes, most24, headFields, padBytes, bodyOf}
+use Rattle.record.specs.Record.{Record, recordSize}
+use Rattle.record.specs.Forest.{Forest, none, node}
+use Rattle.record.specs.Table.{entryAt, tableOf}
+use Rattle.rfc6733.specs.Writer.{isGroup, headOf, avpBytes, forestBytes, most24, headFields, padBytes, bodyOf}
 use Rattle.table.specs.Forests.{count}
 use Rattle.table.specs.Rules.{Unpadded, Leaf, Valid}
 use Rattle.table.specs.Tables.{run, one}

@@ -9,9 +9,10 @@ use native.Mathlib.Omega.{arith}
 use lib.ListN.{length, drop}
 use lib.Dec.{ltb}
 use borrow.Author.Tests.{ltb-true, ltb-false, lt-ltb, le-ltb}
-use Rattle.rfc6733.specs.Record.{Record, recordSize}
-use Rattle.rfc6733.specs.Forest.{Forest, none}
-use Rattle.rfc6733.specs.Writer.{entryAt, tableOf, isGroup, headOf, statedData, most24}
+use Rattle.record.specs.Record.{Record, recordSize}
+use Rattle.record.specs.Forest.{Forest, none}
+use Rattle.record.specs.Table.{entryAt, tableOf}
+use Rattle.rfc6733.specs.Writer.{isGroup, headOf, statedData, most24}
 use Rattle.table.specs.Forests.{count, size}
 use Rattle.table.specs.Rules.{Valid}
 use Rattle.table.specs.Tables.{run, one}

@@ -7,9 +7,10 @@ use mathlib.Core.List.{List}
 use native.Mathlib.Omega.{arith}
 use lib.ListN.{length, drop, length-drop}
 use lib.Seq.{drop-drop}
-use Rattle.rfc6733.specs.Record.{Record, recordSize}
-use Rattle.rfc6733.specs.Forest.{none, node}
-use Rattle.rfc6733.specs.Writer.{entryAt, tableOf, isGroup}
+use Rattle.record.specs.Record.{Record, recordSize}
+use Rattle.record.specs.Forest.{none, node}
+use Rattle.record.specs.Table.{entryAt, tableOf}
+use Rattle.rfc6733.specs.Writer.{isGroup}
 use Rattle.table.specs.Forests.{count}
 use Rattle.table.specs.Rules.{Good, Valid}
 use Rattle.table.specs.Tables.{run, one}

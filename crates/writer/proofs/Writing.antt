@@ -11,10 +11,11 @@ use borrow.Author.Tests.{lt-ltb, le-ltb, eq-eqb, ne-eqb, le-leb}
 use Rattle.octets.specs.Octets.{pack, over}
 use Rattle.octets.proofs.Numbers.{length-pack}
 use Rattle.octets.proofs.Lists.{over-before, lent}
-use Rattle.rfc6733.specs.Answer.{accepted, refused, badHeader, badTable, tooLong, noRoom}
-use Rattle.rfc6733.specs.Record.{recordSize}
-use Rattle.rfc6733.specs.Forest.{Forest, none, node, front, forest}
-use Rattle.rfc6733.specs.Writer.{Fields, tableOf, keepers, forestBytes, messageBytes, tableBytes, most24, written, headerFields}
+use Rattle.refusal.specs.Answer.{accepted, refused, badHeader, badTable, tooLong, noRoom}
+use Rattle.record.specs.Record.{recordSize}
+use Rattle.record.specs.Forest.{Forest, none, node, front, forest}
+use Rattle.rfc6733.specs.Writer.{Fields, keepers, forestBytes, messageBytes, tableBytes, most24, written, headerFields}
+use Rattle.record.specs.Table.{tableOf}
 use Rattle.table.specs.Forests.{size}
 use Rattle.table.specs.Rules.{Valid, Kept}
 use Rattle.table.specs.Tables.{run}

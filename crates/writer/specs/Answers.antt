@@ -1,7 +1,7 @@
 -- The writer's answers, as document 01's.
 -- Assumes nothing: these are definitions.
 use Prim.Native.Nat.{ℕ}
-use Rattle.rfc6733.specs.Answer.{Answer, accepted}
+use Rattle.refusal.specs.Answer.{Answer, accepted}
 use Rattle.rfc6733.specs.Writer as definition
 use Rattle.refusal.specs.Refusals.{refusedAs}
 use Rattle.writer.specs.declared.Fields.{Fields}

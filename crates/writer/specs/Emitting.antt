@@ -5,9 +5,10 @@ use mathlib.Core.Path.{_≡_}
 use mathlib.Core.List.{List}
 use lib.ListN.{length, take, drop}
 use Rattle.octets.specs.Octets.{over}
-use Rattle.rfc6733.specs.Record.{Record}
-use Rattle.rfc6733.specs.Forest.{Forest}
-use Rattle.rfc6733.specs.Writer.{tableOf, statedData, forestBytes, most24}
+use Rattle.record.specs.Record.{Record}
+use Rattle.record.specs.Forest.{Forest}
+use Rattle.record.specs.Table.{tableOf}
+use Rattle.rfc6733.specs.Writer.{statedData, forestBytes, most24}
 use Rattle.table.specs.Forests.{count}
 use Rattle.table.specs.Rules.{Leaf, Valid}
 use Rattle.writer.specs.declared.emit.Taken.{Taken}

@@ -4,8 +4,9 @@ use Prim.Native.Nat.{ℕ, _≤_}
 use mathlib.Core.Bool.{cond}
 use mathlib.Core.List.{List}
 use lib.Dec.{ltb}
-use Rattle.rfc6733.specs.Forest.{Forest}
-use Rattle.rfc6733.specs.Writer.{tableOf, most24}
+use Rattle.record.specs.Forest.{Forest}
+use Rattle.record.specs.Table.{tableOf}
+use Rattle.rfc6733.specs.Writer.{most24}
 use Rattle.table.specs.Forests.{count, size}
 use Rattle.table.specs.Rules.{Valid}
 use Rattle.writer.specs.declared.size.Measured.{Measured}

@@ -1,15 +1,16 @@
 // Writes the AVPs of a table that is known to keep the rules and to fit: the run and the AVP call each other in turn.
-use attribute::kinds::GROUPED;
 use avp::AVP;
 use record::Record;
+use record::kinds::GROUPED;
 use rules::header_size;
 ghost use mathlib.Core.Path.{_≡_};
 ghost use Prim.Native.Nat.{_+_, _≤_, _<_};
 ghost use lib.ListN.{length};
 ghost use lib.Seq.{sets};
 ghost use Rattle.octets.specs.Octets.{octets, pack, over};
-ghost use Rattle.rfc6733.specs.Record.{recordSize};
-ghost use Rattle.rfc6733.specs.Writer.{entryAt, headOf, avpBytes, headFields, padBytes};
+ghost use Rattle.record.specs.Record.{recordSize};
+ghost use Rattle.record.specs.Table.{entryAt};
+ghost use Rattle.rfc6733.specs.Writer.{headOf, avpBytes, headFields, padBytes};
 ghost use Rattle.table.specs.Tables.{run, one};
 ghost use Rattle.record.specs.Stored.{recordAs};
 ghost use Rattle.writer.specs.Emitting.{dataIn, LeafRoom, Put, Ready, Done};

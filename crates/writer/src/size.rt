@@ -1,12 +1,12 @@
 // How long a message gets, before a byte of it is written: the size of a run and of an AVP call each other in turn.
-use attribute::kinds::GROUPED;
 use record::Record;
+use record::kinds::GROUPED;
 use rules::header_size;
 ghost use mathlib.Core.Path.{_≡_};
 ghost use Prim.Native.Nat.{_≤_};
 ghost use lib.ListN.{length};
-ghost use Rattle.rfc6733.specs.Record.{recordSize};
-ghost use Rattle.rfc6733.specs.Writer.{entryAt};
+ghost use Rattle.record.specs.Record.{recordSize};
+ghost use Rattle.record.specs.Table.{entryAt};
 ghost use Rattle.table.specs.Tables.{run, one};
 ghost use Rattle.record.specs.Stored.{recordAs};
 ghost use Rattle.writer.specs.Sizing.{Orderly, sizedOf};

@@ -6,7 +6,7 @@ use native.Mathlib.Omega.{arith}
 use lib.ListN.{length, List·getD-eq-default}
 use denote.Ref.{now}
 use borrow.Author.Needs.{needs}
-use Rattle.rfc6733.specs.Value.{unhandled}
+use Rattle.record.specs.Kinds.{unhandled}
 use Rattle.attribute.proofs.entry.Statement.{statement}
 use Rattle.attribute.proofs.entry.Tie as tie
 

@@ -4,7 +4,8 @@ use native.Mathlib.Omega.{arith}
 use denote.Ref.{now}
 use borrow.Author.Needs.{needs}
 use Rattle.octets.specs.Run.{tree}
-use Rattle.rfc6733.specs.Record.{laid, avps, records}
+use Rattle.record.specs.Record.{laid}
+use Rattle.rfc6733.specs.Records.{avps, records}
 use Rattle.attribute.specs.Attributes.{dictionary}
 use Rattle.avps.proofs.Filling.{records-length}
 use Rattle.avps.proofs.Clearing.{cleared}

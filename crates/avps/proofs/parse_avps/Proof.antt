@@ -8,8 +8,8 @@ use lib.ListN.{length}
 use denote.Ref.{now}
 use borrow.Author.Needs.{needs}
 use Rattle.octets.specs.Run.{Tree, tree}
-use Rattle.rfc6733.specs.Record.{avps}
-use Rattle.rfc6733.specs.Decoder.{stored}
+use Rattle.rfc6733.specs.Records.{avps}
+use Rattle.record.specs.Store.{stored}
 use Rattle.rfc6733.proofs.Decoded.{allowed-most}
 use Rattle.attribute.specs.Attributes.{dictionary}
 use Rattle.count.specs.Counts as counted

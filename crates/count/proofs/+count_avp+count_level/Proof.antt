@@ -18,8 +18,8 @@ use borrow.Fn.PlainCycle.{Measures, is, falls, and}
 use Rattle.octets.specs.Run.{Tree, done, broken, tree, tried}
 use Rattle.octets.proofs.Runs.{tree-none, tree-broken}
 use Rattle.rfc6733.specs.Avp.{payload}
-use Rattle.rfc6733.specs.Value.{grouped}
-use Rattle.rfc6733.specs.Record.{kindOf, avps}
+use Rattle.record.specs.Kinds.{grouped}
+use Rattle.rfc6733.specs.Records.{kindOf, avps}
 use Rattle.rfc6733.proofs.Items.{sound}
 use Rattle.rfc6733.proofs.Alone.{some-tried}
 use Rattle.attribute.specs.Attributes.{dictionary}

@@ -7,7 +7,7 @@ use denote.Ref.{now}
 use borrow.Author.Needs.{needs}
 use borrow.Author.Tests.{not-true, not-false}
 use Rattle.octets.specs.Run.{Tree, tree, tiles}
-use Rattle.rfc6733.specs.Record.{avps}
+use Rattle.rfc6733.specs.Records.{avps}
 use Rattle.rfc6733.specs.Decoder.{allowed}
 use Rattle.rfc6733.proofs.Tiling.{tiles-any}
 use Rattle.attribute.specs.Attributes.{dictionary}

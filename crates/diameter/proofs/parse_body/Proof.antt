@@ -6,7 +6,7 @@ use mathlib.Core.Path.{refl}
 use native.Mathlib.Omega.{arith}
 use denote.Ref.{now}
 use borrow.Author.Needs.{needs}
-use Rattle.rfc6733.specs.Decoder.{stored}
+use Rattle.record.specs.Store.{stored}
 use Rattle.avps.specs.Answers as avps
 use Rattle.avps.specs.Answers.{lastPlace}
 use Rattle.avps.proofs.Told.{told}

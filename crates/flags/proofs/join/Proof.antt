@@ -1,7 +1,7 @@
 -- `join` meets its contract: flags are joined bit by bit.
 -- Assumes nothing.
 use mathlib.Core.Path.{refl}
-use Rattle.rfc6733.specs.Flags.{join}
+use Rattle.flags.specs.Flags.{join}
 use Rattle.flags.proofs.join.Statement.{statement}
 use Rattle.flags.proofs.join.Tie as tie
 

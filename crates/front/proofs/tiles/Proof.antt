@@ -8,7 +8,7 @@ use native.Mathlib.Omega.{arith}
 use lib.ListN.{length, drop, length-drop, drop-of-length-le}
 use denote.Ref.{now}
 use borrow.Author.Needs.{needs}
-use Rattle.rfc6733.specs.Record.{tiling}
+use Rattle.rfc6733.specs.Records.{tiling}
 use Rattle.rfc6733.proofs.Tiling.{tiling-none, tiling-broken, tiling-more}
 use Rattle.front.proofs.Fronts.{Turn, turn, next-is, stuck}
 use Rattle.front.proofs.tiles.Statement.{statement}

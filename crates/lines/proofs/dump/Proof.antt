@@ -8,10 +8,11 @@ use lib.ListN.{length, take, replicate, length-take}
 use denote.Ref.{now}
 use borrow.Author.Needs.{needs}
 use Rattle.octets.specs.Octets.{Bytes}
-use Rattle.rfc6733.specs.Answer.{accepted}
+use Rattle.refusal.specs.Answer.{accepted}
 use Rattle.rfc6733.specs.Dictionary.{sawp}
-use Rattle.rfc6733.specs.Record.{laid}
-use Rattle.rfc6733.specs.Decoder.{messageRecords, decoded, stored}
+use Rattle.record.specs.Record.{laid}
+use Rattle.rfc6733.specs.Decoder.{messageRecords, decoded}
+use Rattle.record.specs.Store.{stored}
 use Rattle.attribute.specs.Attributes.{dictionary}
 use Rattle.refusal.specs.Refusals.{numberOf, amountOf}
 use Rattle.diameter.specs.declared.Decoded.{Decoded}

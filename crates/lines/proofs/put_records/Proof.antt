@@ -9,7 +9,7 @@ use lib.ListN.{length, take, drop, length-take, length-drop}
 use denote.Ref.{now}
 use borrow.Author.Needs.{needs}
 use Rattle.octets.proofs.Lists.{rest}
-use Rattle.rfc6733.specs.Record.{recordSize, recordAt}
+use Rattle.record.specs.Record.{recordSize, recordAt}
 use Rattle.rfc6733.specs.Dump.{recordLine, line}
 use Rattle.lines.specs.Text.{Put, recordsText}
 use Rattle.lines.proofs.Records.{linesFrom, lines-first}

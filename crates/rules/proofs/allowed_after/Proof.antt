@@ -2,7 +2,7 @@
 -- Assumes nothing.
 use borrow.Author.Needs.{needs}
 use borrow.Author.Tests.{eq-eqb, ne-eqb}
-use Rattle.rfc6733.specs.Value.{grouped}
+use Rattle.record.specs.Kinds.{grouped}
 use Rattle.rfc6733.specs.Writer.{allowedAfter}
 use Rattle.record.specs.Stored.{recordAs}
 use Rattle.rules.proofs.allowed_after.Statement.{statement}

@@ -10,8 +10,9 @@ use denote.Ref.{now}
 use borrow.Author.Needs.{needs}
 use borrow.Author.Tests.{not-true, not-false}
 use Rattle.octets.proofs.Lists.{rest}
-use Rattle.rfc6733.specs.Record.{recordSize}
-use Rattle.rfc6733.specs.Writer.{entryAt, tableOf, keeps, keepers}
+use Rattle.record.specs.Record.{recordSize}
+use Rattle.record.specs.Table.{entryAt, tableOf}
+use Rattle.rfc6733.specs.Writer.{keeps, keepers}
 use Rattle.table.proofs.Rules.{keeps-good}
 use Rattle.record.specs.Stored.{recordAs}
 use Rattle.rules.proofs.Checks.{stepped, not-stepped, stops, one-more, none-left}

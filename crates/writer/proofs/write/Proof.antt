@@ -10,7 +10,8 @@ use denote.Ref.{now}
 use borrow.Author.Needs.{needs}
 use Rattle.octets.proofs.Lists.{rest}
 use Rattle.rfc6733.specs.Writer as definition
-use Rattle.rfc6733.specs.Writer.{tableOf, output}
+use Rattle.record.specs.Table.{tableOf}
+use Rattle.rfc6733.specs.Writer.{output}
 use Rattle.table.specs.Rules.{Valid}
 use Rattle.table.specs.Tables.{run}
 use Rattle.writer.specs.Answers.{fieldsAs, answerOf}

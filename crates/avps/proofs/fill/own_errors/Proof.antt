@@ -2,7 +2,7 @@
 -- Assumes nothing.
 use mathlib.Core.Path.{ap₂, _∙_}
 use borrow.Author.Needs.{needs}
-use Rattle.rfc6733.specs.Flags.{join}
+use Rattle.flags.specs.Flags.{join}
 use Rattle.avps.proofs.fill.own_errors.Statement.{statement}
 use Rattle.avps.proofs.fill.own_errors.Tie as tie
 

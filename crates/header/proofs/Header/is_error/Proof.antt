@@ -1,7 +1,7 @@
 -- `is_error` meets its contract: `ERROR_FLAG` is the mask of the bit, `2 ^ errorBit`.
 -- Assumes nothing.
 use Rattle.rfc6733.specs.Header.{errorBit}
-use Rattle.rfc6733.proofs.Masks.{mask-bit}
+use Rattle.flags.proofs.Masks.{mask-bit}
 use Rattle.header.proofs.Header.is_error.Statement.{statement}
 use Rattle.header.proofs.Header.is_error.Tie as tie
 

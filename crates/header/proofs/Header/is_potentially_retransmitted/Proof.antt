@@ -1,7 +1,7 @@
 -- `is_potentially_retransmitted` meets its contract: `POTENTIALLY_RETRANSMITTED_FLAG` is the mask of the bit, `2 ^ retransmittedBit`.
 -- Assumes nothing.
 use Rattle.rfc6733.specs.Header.{retransmittedBit}
-use Rattle.rfc6733.proofs.Masks.{mask-bit}
+use Rattle.flags.proofs.Masks.{mask-bit}
 use Rattle.header.proofs.Header.is_potentially_retransmitted.Statement.{statement}
 use Rattle.header.proofs.Header.is_potentially_retransmitted.Tie as tie
 

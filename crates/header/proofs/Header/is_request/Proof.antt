@@ -1,7 +1,7 @@
 -- `is_request` meets its contract: `REQUEST_FLAG` is the mask of the bit, `2 ^ requestBit`.
 -- Assumes nothing.
 use Rattle.rfc6733.specs.Header.{requestBit}
-use Rattle.rfc6733.proofs.Masks.{mask-bit}
+use Rattle.flags.proofs.Masks.{mask-bit}
 use Rattle.header.proofs.Header.is_request.Statement.{statement}
 use Rattle.header.proofs.Header.is_request.Tie as tie
 

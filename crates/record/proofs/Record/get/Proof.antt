@@ -3,7 +3,7 @@
 -- Assumes nothing.
 use mathlib.Core.Path.{ap, _∙_}
 use borrow.Author.Needs.{needs}
-use Rattle.rfc6733.specs.Writer.{bare, entryAt}
+use Rattle.record.specs.Table.{bare, entryAt}
 use Rattle.record.proofs.Absent.{record-over-zeros}
 use Rattle.record.proofs.Record.get.Statement.{statement}
 use Rattle.record.proofs.Record.get.Tie as tie

@@ -7,7 +7,7 @@ use lib.ListN.{drop}
 use lib.Seq.{sets}
 use borrow.Author.Needs.{needs}
 use Rattle.octets.specs.Octets.{octets, pack}
-use Rattle.rfc6733.specs.Record.{layout}
+use Rattle.record.specs.Record.{layout}
 use Rattle.record.specs.declared.Record.{Record}
 use Rattle.record.specs.Stored.{recordAs}
 use Rattle.record.proofs.Record.put_data.Statement.{statement}

@@ -3,7 +3,7 @@
 use mathlib.Core.Path.{refl}
 use mathlib.Core.List.{[], _∷_}
 use borrow.Author.Needs.{needs}
-use Rattle.rfc6733.specs.Value.{integer32, unsigned32, float32, enumerated, time}
+use Rattle.record.specs.Kinds.{integer32, unsigned32, float32, enumerated, time}
 use Rattle.value.proofs.KnownKinds.{last-one}
 use Rattle.value.proofs.Value.of_32.Statement.{statement}
 use Rattle.value.proofs.Value.of_32.Tie as tie

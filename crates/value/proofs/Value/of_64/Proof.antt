@@ -3,7 +3,7 @@
 use mathlib.Core.Path.{refl}
 use mathlib.Core.List.{[], _∷_}
 use borrow.Author.Needs.{needs}
-use Rattle.rfc6733.specs.Value.{integer64, unsigned64, float64}
+use Rattle.record.specs.Kinds.{integer64, unsigned64, float64}
 use Rattle.value.proofs.KnownKinds.{last-one}
 use Rattle.value.proofs.Value.of_64.Statement.{statement}
 use Rattle.value.proofs.Value.of_64.Tie as tie

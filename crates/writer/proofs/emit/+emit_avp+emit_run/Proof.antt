@@ -14,10 +14,11 @@ use borrow.Fn.Kinds.{In}
 use borrow.Fn.PlainCycle.{Measures, is, falls, and}
 use borrow.Rule.Slice.PartMut.{putMid, same-len-mid}
 use Rattle.octets.proofs.Lists.{rest}
-use Rattle.rfc6733.specs.Record as rfc
-use Rattle.rfc6733.specs.Record.{recordSize}
-use Rattle.rfc6733.specs.Forest.{Forest}
-use Rattle.rfc6733.specs.Writer.{entryAt, forestBytes}
+use Rattle.record.specs.Record as rfc
+use Rattle.record.specs.Record.{recordSize}
+use Rattle.record.specs.Forest.{Forest}
+use Rattle.record.specs.Table.{entryAt}
+use Rattle.rfc6733.specs.Writer.{forestBytes}
 use Rattle.table.specs.Tables.{run, one}
 use Rattle.table.proofs.Lengths.{head-low}
 use Rattle.table.proofs.Turns.{run-end, run-above}

@@ -6,7 +6,7 @@ use native.Mathlib.Omega.{arith}
 use denote.Ref.{now}
 use borrow.Author.Tests.{not-true, not-false}
 use borrow.Author.Needs.{needs}
-use Rattle.rfc6733.specs.Flags.{bit}
+use Rattle.flags.specs.Flags.{bit}
 use Rattle.rfc6733.specs.Avp.{vendorBit}
 use Rattle.record.specs.Stored.{recordAs}
 use Rattle.writer.proofs.Heads.{head-put, vendor-put, with-vendor}

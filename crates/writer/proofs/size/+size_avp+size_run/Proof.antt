@@ -12,10 +12,10 @@ use borrow.Author.Needs.{needs}
 use borrow.Fn.Kinds.{In}
 use borrow.Fn.PlainCycle.{Measures, is, falls, and}
 use Rattle.octets.proofs.Lists.{rest}
-use Rattle.rfc6733.specs.Record as rfc
-use Rattle.rfc6733.specs.Record.{recordSize}
-use Rattle.rfc6733.specs.Forest.{Forest}
-use Rattle.rfc6733.specs.Writer.{entryAt}
+use Rattle.record.specs.Record as rfc
+use Rattle.record.specs.Record.{recordSize}
+use Rattle.record.specs.Forest.{Forest}
+use Rattle.record.specs.Table.{entryAt}
 use Rattle.table.specs.Tables.{run, one}
 use Rattle.table.proofs.Turns.{run-end, run-above}
 use Rattle.record.specs.Stored.{recordAs}

@@ -5,7 +5,7 @@ use native.Mathlib.Omega.{arith}
 use lib.ListN.{length, take, drop}
 use denote.Ref.{now}
 use Rattle.octets.proofs.Numbers.{be-small}
-use Rattle.rfc6733.specs.Record.{recordSize}
+use Rattle.record.specs.Record.{recordSize}
 use Rattle.rfc6733.specs.Entered.{entered}
 use Rattle.attribute.specs.Attributes.{dictionary}
 use Rattle.avps.specs.Fill.{Room}

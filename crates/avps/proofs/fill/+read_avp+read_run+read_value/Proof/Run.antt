@@ -7,8 +7,9 @@ use lib.ListN.{length, take, drop}
 use denote.Ref.{now}
 use borrow.Rule.Slice.PartMut.{putMid}
 use Rattle.octets.specs.Run.{tree}
-use Rattle.rfc6733.specs.Flags.{join}
-use Rattle.rfc6733.specs.Record.{recordSize, avps}
+use Rattle.flags.specs.Flags.{join}
+use Rattle.record.specs.Record.{recordSize}
+use Rattle.rfc6733.specs.Records.{avps}
 use Rattle.attribute.specs.Attributes.{dictionary}
 use Rattle.front.proofs.Fronts.{Turn, turn, stuck}
 use Rattle.avps.specs.Fill.{depthAt}

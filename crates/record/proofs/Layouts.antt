@@ -6,7 +6,7 @@ use mathlib.Core.List.{List, [], _∷_, _++_, append-assoc}
 use native.Mathlib.Omega.{arith}
 use lib.ListN.{length, length-append}
 use Rattle.octets.proofs.Numbers.{length-pack}
-use Rattle.rfc6733.specs.Record.{Record, recordSize, layout, recordBytes, laid}
+use Rattle.record.specs.Record.{Record, recordSize, layout, recordBytes, laid}
 
 pub record-length : (r : Record) → length (recordBytes r) ≡ recordSize
 unfolding recordBytes

@@ -5,7 +5,7 @@ use mathlib.Core.Path.{_≡_, sym, ap₂, _∙_}
 use mathlib.Core.Bool.{Bool, true, false}
 use native.Mathlib.Omega.{arith}
 use lib.Bits.{bitOr, or-step, or-comm, or-zero-l, or-zero-r, or-lt}
-use Rattle.rfc6733.specs.Flags.{flag, join}
+use Rattle.flags.specs.Flags.{flag, join}
 
 halves : (a b : ℕ) → (bitOr a b / 2 ≡ bitOr (a / 2) (b / 2)) × (bitOr a b % 2 ≡ max (a % 2) (b % 2))
 halves a b = omega (arith, or-step a b)

@@ -10,7 +10,7 @@ use lib.Dec.{eqb}
 use lib.Bits.{bitAnd, and-high}
 use lib.Pow.{pow-pos}
 use borrow.Author.Tests.{eq-eqb, ne-eqb}
-use Rattle.rfc6733.specs.Flags.{bit}
+use Rattle.flags.specs.Flags.{bit}
 
 -- b is one bit of n, and m its mask
 one-bit : (n m b : ℕ) → bitAnd n m ≡ b * m → 0 < m → b < 2 → not (eqb (bitAnd n m) 0) ≡ eqb b 1

@@ -8,7 +8,7 @@ use native.Mathlib.Omega.{arith}
 use lib.Dec.{ltb}
 use borrow.Author.Tests.{ltb-false, le-ltb, not-true, not-false}
 use Rattle.octets.proofs.Runs.{false-true}
-use Rattle.rfc6733.specs.Answer.{Answer, accepted, refused, Refusal, answer, passes}
+use Rattle.refusal.specs.Answer.{Answer, accepted, refused, Refusal, answer, passes}
 
 same-number : {A : Type 0} {m n a b : ℕ} → _≡_ {A = Answer A} (refused m a) (refused n b) → m ≡ n
 same-number e = cc

@@ -4,7 +4,7 @@ use Prim.Native.Nat.{ℕ, _+_}
 use mathlib.Core.Bool.{cond}
 use mathlib.Core.List.{List, [], _∷_, _++_}
 use lib.Dec.{leb}
-use Rattle.rfc6733.specs.Record.{Record}
+use Rattle.record.specs.Record.{Record}
 
 -- no record; or a record, its members, and what follows them
 pub data Forest : Type 0 where

@@ -1,0 +1,16 @@
+-- A store that is lent for records: how many it has room for, and what it holds after an answer (docs/FORMAT.md, 6.3).
+-- Assumes nothing: these are definitions.
+use Prim.Native.Nat.{ℕ, _-_, _/_}
+use mathlib.Core.List.{List, _++_}
+use lib.ListN.{length, replicate}
+use Rattle.refusal.specs.Answer.{Answer, accepted, refused}
+use Rattle.record.specs.Record.{Record, recordSize, laid}
+
+-- how many records a store of n bytes has room for
+abbrev pub capacity : ℕ → ℕ
+capacity n = n / recordSize
+
+-- the records and zero to its last byte where they were accepted, and as lent where not
+unfoldable pub stored : {A : Type 0} → Answer A → List Record → List ℕ → List ℕ
+stored (accepted x) rs store = laid rs ++ replicate (length store - length (laid rs)) 0
+stored (refused n a) rs store = store

@@ -1,0 +1,35 @@
+-- A table of records as the writers take it.
+-- Assumes nothing: these are definitions.
+use Prim.Native.Nat.{ℕ, zero, suc, _/_}
+use mathlib.Core.List.{List, [], _∷_}
+use lib.ListN.{length, drop}
+use Rattle.record.specs.Record.{Record, recordSize, recordAt}
+
+-- the writer takes neither error flags nor value
+unfoldable pub bare : Record → Record
+bare r =
+    record {
+      code = r .code;
+      flags = r .flags;
+      length = r .length;
+      vendor = r .vendor;
+      place = r .place;
+      depth = r .depth;
+      kind = r .kind;
+      errors = 0;
+      padding = r .padding;
+      pads = r .pads;
+      value = 0;
+    }
+
+-- the record at the front of a table, as it takes it
+unfoldable pub entryAt : List ℕ → Record
+entryAt s = bare (recordAt s)
+
+-- the first n records of a table
+unfoldable pub recordsIn : ℕ → List ℕ → List Record
+recordsIn zero s = []
+recordsIn (suc n) s = entryAt s ∷ recordsIn n (drop recordSize s)
+
+unfoldable pub tableOf : List ℕ → List Record
+tableOf s = recordsIn (length s / recordSize) s
