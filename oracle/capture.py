@@ -1,4 +1,4 @@
-"""Puts messages into a capture, has tshark read it, and takes from its tree what document 01's records hold.
+"""Puts messages into a capture, has tshark read it, and takes from its tree what the records hold.
 
 A message is one TCP segment in one IPv4 packet. Each has a source port of its own, so that no segment is taken for a part or a repetition of another.
 """

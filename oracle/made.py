@@ -1,6 +1,6 @@
 """Makes cases of the RFC reading from a seed, a line each as in cases.txt: python3 oracle/made.py SEED COUNT
 
-Messages are laid out as RFC 6733 sections 3 and 4 say, with the codes of document 01 and a few others, text at the edges of RFC 3629's ranges, and
+Messages are laid out as RFC 6733 sections 3 and 4 say, with the codes of docs/FORMAT.md and a few others, text at the edges of RFC 3629's ranges, and
 Address data of several families. Some are then damaged: a length, a byte, the end.
 """
 import random

@@ -1,6 +1,6 @@
-"""A model of document 01, written from its text and from RFC 6733 and RFC 3629, not from our code.
+"""A model of the format (docs/FORMAT.md), written from its text and from RFC 6733 and RFC 3629, not from our code.
 
-It answers a case as document 01 says: message, header alone or one AVP alone, in either reading, or a table to be written. It is slow and plain on
+It answers a case as docs/FORMAT.md says: message, header alone or one AVP alone, in either reading, or a table to be written. It is slow and plain on
 purpose. `oracle/run replay` makes with it frames that crates/replay reads and answers that it must write:
 
     python3 oracle/model.py frames < oracle/cases.txt

@@ -2,7 +2,7 @@
 
 RFC is the text of RFC 6733 (rfc-editor.org/rfc/rfc6733.txt): its table of section 4.5 gives codes, names and data types, and its
 pictures in sections 3 and 4.1 the flag bits. RUST is sawp-diameter/src/lib.rs: its enums give the names of its codes and the numbers of
-the kinds, and `Value::new` the kind of each name. Document 01 gives the rest: that in the RFC reading another vendor's AVP is
+the kinds, and `Value::new` the kind of each name. docs/FORMAT.md gives the rest: that in the RFC reading another vendor's AVP is
 Unhandled, the refusals, and, by oracle/model.py, what is read and written of P8. Nothing is taken from our code.
 """
 import calendar

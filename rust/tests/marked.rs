@@ -1,4 +1,4 @@
-//! The marked messages of document 01, P1 to P13, in both readings: each field of the answer and each byte of the store.
+//! The marked messages (docs/FORMAT.md, 10), P1 to P13, in both readings: each field of the answer and each byte of the store.
 
 use tandrekily::error_flags::{DATA_LENGTH, DATA_VALUE};
 use tandrekily::kinds::{GROUPED, UNHANDLED, UNSIGNED32};

@@ -1,4 +1,4 @@
-//! The refusals of document 01: each number with its name, and each name from a call that is refused for it.
+//! The refusals (docs/FORMAT.md, 7.1): each number with its name, and each name from a call that is refused for it.
 
 use tandrekily::{decode, kinds, write, Fields, Limits, Reading, Record, Refusal};
 

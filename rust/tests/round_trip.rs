@@ -5,7 +5,7 @@ mod frames;
 use frames::{frames, Frame, LENT};
 use tandrekily::{decode, decode_avp, write, Fields, Header, Limits, Reading, Record};
 
-/// P8 of document 01: a Result-Code with a fifth data byte.
+/// P8 (docs/FORMAT.md, 10): a Result-Code with a fifth data byte.
 const FIFTH_BYTE: [u8; 36] = [
     1, 0, 0, 36, 0, 0, 0, 0, 0, 0, 0, 0, 0, 0, 0, 0, 0, 0, 0, 0, // header
     0, 0, 1, 12, 0, 0, 0, 13, 0, 0, 7, 209, 0, 0, 0, 0,

@@ -1,5 +1,5 @@
 -- The kinds by code. A code that a table doesn't list is Unhandled, by induction over the table; the codes that it lists are one
--- computation. So the sawp dictionary is document 01's table at every code, the table of a reading gives its kinds, and both
+-- computation. So the sawp dictionary is the table of docs/FORMAT.md, 5.1, at every code, the table of a reading gives its kinds, and both
 -- readings have the same groups.
 -- Assumes nothing.
 use Prim.Native.Nat.{ℕ, max, _≤_, _<_}
@@ -59,9 +59,9 @@ entry-of rs within c = by (ltb c 512) refl
         let past = ltb-false c 512 t in
         past-table (kindIn rs) 512 c unhandled past ∙ sym (off-rows rs c (not-listed (codesIn rs) c (omega arith)))
 
--- ---- the readings beside one another, and beside document 01
+-- ---- the readings beside one another, and beside the table of docs/FORMAT.md
 
--- document 01's table is the sawp dictionary's
+-- the table of docs/FORMAT.md is the sawp dictionary's
 pub document-kinds : (c : ℕ) → kindIn sawpAvps c ≡ kindAmong kindsByCode c
 document-kinds c =
     let same = same-by-list (kindIn sawpAvps) (kindAmong kindsByCode) in

@@ -1,4 +1,4 @@
--- Document 01's table "Kinds by code, sawp reading", as it stands there.
+-- The kinds by code in the sawp reading, as the table of docs/FORMAT.md, 5.1, has them.
 -- Assumes nothing: these are definitions.
 use Prim.Native.Nat.{ℕ}
 use mathlib.Core.Bool.{cond}

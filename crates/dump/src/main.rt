@@ -1,4 +1,4 @@
-// Dumps the message on standard input (document 01, "The dump"): the text is that of `lines`.
+// Dumps the message on standard input (docs/FORMAT.md, 9): the text is that of `lines`.
 const OUT: i32 = 1;
 
 const ERR: i32 = 2;

@@ -1,4 +1,4 @@
-// The error flags of document 01, a number below 16, and how they join.
+// The error flags (docs/FORMAT.md, 3), a number below 16, and how they join.
 // This crate knows no layout and no reading.
 ghost use mathlib.Core.Path.{_≡_};
 ghost use Rattle.flags.specs.Flags.{flag, join};

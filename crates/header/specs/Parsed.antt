@@ -1,4 +1,4 @@
--- What reading a header answers, as document 01's answer.
+-- What reading a header answers, as an answer of the definition.
 -- Assumes nothing: these are definitions.
 use Rattle.refusal.specs.Answer.{Answer, accepted}
 use Rattle.rfc6733.specs.Header as rfc

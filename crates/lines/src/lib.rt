@@ -1,4 +1,4 @@
-// The dump's text (document 01, "The dump"): a message as lines of decimal numbers, or its refusal.
+// The dump's text (docs/FORMAT.md, 9): a message as lines of decimal numbers, or its refusal.
 // The text is put into a lent array; this crate reads and writes no files.
 use attribute::Reading;
 use diameter::Decoded;

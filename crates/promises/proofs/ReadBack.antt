@@ -1,5 +1,5 @@
 -- What `writer::write` wrote, `diameter::parse` accepts, with the same codes, flags, vendors, data and padding at the top level as the
--- table's records of depth 1 (document 01, "Numbers returned", of the writer, asks it of the sawp reading; it is true of both). Between
+-- table's records of depth 1 (docs/FORMAT.md, 8.4). Between
 -- the contracts stands the reading back of the definition (table/proofs/ReadBack).
 -- Assumes nothing.
 use Prim.Native.Nat.{ℕ, _≤_}

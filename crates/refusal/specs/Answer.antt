@@ -1,4 +1,4 @@
--- The answers of document 01, "Numbers returned": an acceptance with what it returns, or a refusal with its number and its amount.
+-- The answers (docs/FORMAT.md, 7): an acceptance with what it returns, or a refusal with its number and its amount.
 -- Assumes nothing: these are definitions.
 use Prim.Native.Nat.{ℕ}
 use mathlib.Core.Bool.{Bool, true, cond, not, _&&_}

@@ -1,4 +1,4 @@
--- A refusal of the code as document 01's: its number and its amount.
+-- A refusal of the code as one of the definition: its number and its amount.
 -- Assumes nothing: these are definitions.
 use Prim.Native.Nat.{ℕ}
 use Rattle.refusal.specs.Answer.{Answer, refused, incomplete, notVersion, badLength, notTiled, tooDeep, noRecords, badDepth, badHeader, badTable, tooLong, noRoom}

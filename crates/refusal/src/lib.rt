@@ -1,4 +1,4 @@
-// The refusals of document 01, each with its number and its amount.
+// The refusals (docs/FORMAT.md, 7.1), each with its number and its amount.
 // This crate knows the list, and nothing of when a refusal is given.
 ghost use mathlib.Core.Path.{_≡_};
 ghost use Rattle.refusal.specs.Refusals.{numberOf, amountOf};

@@ -1,4 +1,4 @@
--- What a complete AVP is: the sentence of document 01 as a consequence of the refusals in order. Its header is two or three
+-- What a complete AVP is: docs/FORMAT.md, 1.5, as a consequence of the refusals in order. Its header is two or three
 -- words, so with its padding it is a whole number of words, and at least two.
 -- Assumes nothing.
 use Prim.Native.Nat.{ℕ, _+_, _-_, _%_, _≤_}
@@ -26,7 +26,7 @@ pub head : (f : ℕ) → Head f
 unfolding headSize
 head f = let w = head-by (bit vendorBit f) in record { low = w .0; high = w .1; words = w .2 }
 
--- Document 01: an AVP isn't complete if its 8 bytes are absent, its length is below 8, exceeds what is left or (vendor bit
+-- An AVP isn't complete if its 8 bytes are absent, its length is below 8, exceeds what is left or (vendor bit
 -- set) is below 12, or its padding is absent. (A header is at least 8 bytes, and the padded size at least the length.)
 pub record Whole (s : List ℕ) : Type 0 where
   pub eight : 8 ≤ length s

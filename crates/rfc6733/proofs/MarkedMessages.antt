@@ -1,4 +1,4 @@
--- P1 to P13 of document 01, in both readings, by one computation of the definition.
+-- P1 to P13 (docs/FORMAT.md, 10), in both readings, by one computation of the definition.
 -- Assumes nothing.
 use mathlib.Core.Path.{_≡_, refl}
 use mathlib.Core.List.{List, map}

@@ -96,7 +96,7 @@ avpRefusals s =
 unfoldable pub complete : List ℕ → Bool
 complete s = passes (avpRefusals s)
 
--- AVPs nest at most so deep, by the largest limit (document 01)
+-- AVPs nest at most so deep: the largest depth limit (docs/FORMAT.md, 7.1)
 abbrev pub mostDepth : ℕ
 mostDepth = 64
 

@@ -1,4 +1,4 @@
--- What each way of decoding answers, and what the store holds afterwards (document 01, "Numbers returned").
+-- What each way of decoding answers, and what the store holds afterwards (docs/FORMAT.md, 7).
 -- Assumes nothing: these are definitions.
 use Prim.Native.Nat.{ℕ, _-_, _/_}
 use mathlib.Core.Bool.{Bool, not, _&&_}

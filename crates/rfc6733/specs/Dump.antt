@@ -1,4 +1,4 @@
--- The dump (document 01, "The dump"): the numbers of each line, and the text that they make.
+-- The dump (docs/FORMAT.md, 9): the numbers of each line, and the text that they make.
 -- Assumes nothing: these are definitions.
 use Prim.Native.Nat.{ℕ, zero, suc, _+_, _/_, _%_}
 use mathlib.Core.Bool.{cond}

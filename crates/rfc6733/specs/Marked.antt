@@ -1,4 +1,4 @@
--- The marked messages of document 01, P1 to P13: each with its limits and what the dump shows.
+-- The marked messages (docs/FORMAT.md, 10), P1 to P13: each with its limits and what the dump shows.
 -- Assumes nothing: these are definitions.
 use Prim.Native.Nat.{ℕ}
 use mathlib.Core.List.{List, [], _∷_, _++_}

@@ -1,4 +1,4 @@
--- The records of a run (document 01, "Records of 32 bytes"), a group before its members.
+-- The records of a run (docs/FORMAT.md, 6), a group before its members.
 -- Assumes nothing: these are definitions.
 use Prim.Native.Nat.{ℕ, _+_}
 use mathlib.Core.Bool.{Bool, false, cond, not}

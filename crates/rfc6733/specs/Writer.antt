@@ -1,4 +1,4 @@
--- What the writer answers, and what the output holds afterwards (document 01, "Numbers returned" and BadTable's rules).
+-- What the writer answers, and what the output holds afterwards (docs/FORMAT.md, 8).
 -- Assumes nothing: these are definitions.
 use Prim.Native.Nat.{ℕ, zero, suc, _+_, _-_, _/_, _%_, _^_}
 use mathlib.Core.Bool.{Bool, true, cond, not, _&&_, _||_}

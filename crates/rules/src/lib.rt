@@ -1,4 +1,4 @@
-// The rules of a table (document 01, "Numbers returned"): which record is the first to break one.
+// The rules of a table (docs/FORMAT.md, 8.3): which record is the first to break one.
 // This crate looks at records alone: it knows how many bytes their places may point into, and none of those bytes.
 use avp::AVP;
 use record::Record;

@@ -1,4 +1,4 @@
--- The value of an AVP that is no group is never Grouped, and its kind is one of document 01: it is the dictionary's kind, or
+-- The value of an AVP that is no group is never Grouped, and its kind is one of 0 to 14: it is the dictionary's kind, or
 -- Unhandled, or what an Address is read as. Both dictionaries are lawful: every row of their tables is looked at.
 -- Assumes nothing.
 use Prim.Native.Nat.{ℕ, _≤_}
@@ -19,7 +19,7 @@ use Rattle.table.specs.Trip.{Ungrouped, Lawful}
 
 -- ---- values
 
--- a kind of document 01 that is not Grouped
+-- a kind that is not Grouped
 abbrev Leaf : ℕ → Type 0
 Leaf k = (k ≤ time) × (eqb k grouped ≡ false)
 

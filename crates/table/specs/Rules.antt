@@ -1,4 +1,4 @@
--- The rules of a table (document 01, BadTable), fact by fact.
+-- The rules of a table (docs/FORMAT.md, 8.3), fact by fact.
 -- Assumes nothing: these are definitions.
 use Prim.Native.Nat.{ℕ, _+_, _-_, _%_, _^_, _≤_}
 use mathlib.Core.Path.{_≡_}

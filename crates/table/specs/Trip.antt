@@ -27,7 +27,7 @@ pub record Ungrouped (v : Value) : Type 0 where
   pub low : v .kind ≤ time
   pub other : eqb (v .kind) grouped ≡ false
 
--- A dictionary whose kinds are those of document 01, and to which an Address is no group.
+-- A dictionary whose kinds are 0 to 14, and to which an Address is no group.
 pub record Lawful (D : Dictionary) : Type 0 where
   pub kinds : (c v : ℕ) → D .kind c v ≤ time
   pub addresses : (s : List ℕ) → Ungrouped (D .asAddress s)

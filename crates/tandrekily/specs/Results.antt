@@ -1,4 +1,4 @@
--- A result as numbers: the answer's number and amount, then what an acceptance returns (document 01, "Numbers returned"). What an
+-- A result as numbers: the answer's number and amount, then what an acceptance returns (docs/FORMAT.md, 7). What an
 -- answer does not return is 0.
 -- Assumes nothing: these are definitions.
 use Prim.Native.Nat.{ℕ}

@@ -240,7 +240,7 @@ impl Value {
         }
     }
 
-    /// The kind of a value (document 01).
+    /// The kind of a value (docs/FORMAT.md, 4.1).
     pub fn kind(self) -> u8
         ensures { λ r. ⌜ r ≡ kindOf self ⌝ }
     {

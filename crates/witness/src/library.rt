@@ -1,4 +1,4 @@
-// The library's functions, on document 01's message P8: a Result-Code with a fifth data byte.
+// The library's functions, on the message P8 (docs/FORMAT.md, 10): a Result-Code with a fifth data byte.
 use crate::print;
 use record::Record;
 use tandrekily::RESULT;

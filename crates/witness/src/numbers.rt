@@ -52,7 +52,7 @@ fn refusal(why: Refusal) {
     print::end();
 }
 
-// In document 01's order.
+// In the order of docs/FORMAT.md, 7.1.
 fn refusals() {
     refusal(Refusal::Incomplete(12));
     refusal(Refusal::NotVersion);

@@ -1,4 +1,4 @@
--- The writer's answers, as document 01's.
+-- The writer's answers, as those of the definition.
 -- Assumes nothing: these are definitions.
 use Prim.Native.Nat.{ℕ}
 use Rattle.refusal.specs.Answer.{Answer, accepted}

@@ -1,4 +1,4 @@
-//! Document 01's answers, from what the Rust read, for any depth limit and capacity.
+//! The answers of docs/FORMAT.md, from what the Rust read, for any depth limit and capacity.
 
 use sawp_diameter::diameter::inside::{self, Reading, Refusal, DEPTH_MAX, RECORD};
 
@@ -12,7 +12,7 @@ pub const FILL: u8 = 0xA5;
 /// Bytes of the store past the last whole record.
 pub const SPARE: usize = 5;
 
-/// The numbers of document 01 that a decoder gives.
+/// The numbers (docs/FORMAT.md, 7.1) that a decoder gives.
 pub const ACCEPTED: u8 = 0;
 pub const INCOMPLETE: u8 = 1;
 pub const NOT_VERSION: u8 = 2;

@@ -1,4 +1,4 @@
-//! The marked messages of document 01, P1 to P13, and some more whose answers were worked out by hand.
+//! The marked messages (docs/FORMAT.md, 10), P1 to P13, and some more whose answers were worked out by hand.
 
 use crate::answer::{AVP_ALONE, HEADER_ALONE, MESSAGE};
 

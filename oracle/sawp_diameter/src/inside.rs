@@ -1,4 +1,4 @@
-//! Answers in the words of document 01. Only the functions of the Rust file above compute them.
+//! Answers in the words of docs/FORMAT.md. Only the functions of the Rust file above compute them.
 
 use super::*;
 use sawp::error::Error;
@@ -44,7 +44,7 @@ fn refusal(error: nom::Err<NomError<&[u8]>>) -> Refusal {
         Err::Error(e) if e.code == ErrorKind::Tag => Refusal::NotVersion,
         Err::Error(e) if e.code == ErrorKind::LengthValue => Refusal::BadLength,
         Err::Error(e) if e.code == ErrorKind::Many0 => Refusal::NotTiled,
-        other => panic!("an error that document 01 does not know: {:?}", other),
+        other => panic!("an error that docs/FORMAT.md does not know: {:?}", other),
     }
 }
 

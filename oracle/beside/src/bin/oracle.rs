@@ -13,7 +13,7 @@ use std::sync::mpsc::channel;
 
 const USAGE: &str = "usage:
   oracle sorts                  how many cases each sort has
-  oracle check                  the marked messages of document 01, answered by the Rust
+  oracle check                  the marked messages (docs/FORMAT.md, 10), answered by the Rust
   oracle show SORT NUMBER       a case and its answer, to be read
   oracle frame SORT NUMBER      a case as a frame, for a program
   oracle answer SORT NUMBER     its answer, as a program should write it
