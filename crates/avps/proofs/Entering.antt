@@ -24,7 +24,7 @@ use Rattle.attribute.proofs.Dictionaries.{kind-by-table, kind-at-most}
 use Rattle.value.specs.declared.Read.{Read}
 use Rattle.value.specs.Values.{kindOf, numberOf, readAs, Shows, known, newValue}
 use Rattle.avps.specs.declared.fill.Ran.{Ran}
-use Rattle.avps.specs.Fill.{Written, Members}
+use Rattle.avps.specs.Fill.{Recorded, Members}
 use Rattle.avps.proofs.OtherKinds.{Other, other-read}
 
 -- the data s are a group that tiles, and are entered
@@ -84,7 +84,7 @@ module _ {D : Dictionary} {code vendor : ℕ} {s : List ℕ} {r : Read} (shown :
       }
 
 pub members-written : {D : Dictionary} {code vendor : ℕ} {s : List ℕ} {place depth deeper k : ℕ} {r : Ran} {before after : List ℕ}
-    → Group D code vendor s → k ≡ grouped → deeper ≡ depth + 1 → Written D (tree (avps D) s) place deeper r before after
+    → Group D code vendor s → k ≡ grouped → deeper ≡ depth + 1 → Recorded D (tree (avps D) s) place deeper r before after
     → Members D code vendor s place depth (record { kind = k; number = 0; errors = r .errors; records = r .records }) before after
 members-written g ek one w =
     record {

@@ -24,7 +24,7 @@ use Rattle.record.proofs.Layouts.{laid-length, laid-append}
 use Rattle.rfc6733.proofs.RunRecords.{records-count}
 use Rattle.avp.specs.declared.AVP.{AVP}
 use Rattle.avps.specs.declared.fill.Ran.{Ran}
-use Rattle.avps.specs.Fill.{Room, Written}
+use Rattle.avps.specs.Fill.{Room, Recorded}
 use Rattle.avps.proofs.OwnBytes.{OwnBytes}
 
 -- Of the run t at a place, n records with the flags e are written over the store `before`, which has become `now`. The run r is
@@ -63,7 +63,7 @@ module _ {D : Dictionary} {t : Tree} {place q depth n e : ℕ} {before now : Lis
       false-true (sym (ap tiles broken) ∙ sym (f .tiles-is) ∙ whole)
 
   -- where none is left all is written
-  pub all-filled : length s ≤ at → Written D t place depth (record { records = n; errors = e }) before now
+  pub all-filled : length s ≤ at → Recorded D t place depth (record { records = n; errors = e }) before now
   all-filled end =
       let none : tree (avps D) (drop at s) ≡ done = ap (tree (avps D)) (drop-of-length-le s end) ∙ tree-none (avps D) in
       let all = rw none at f in
@@ -92,7 +92,7 @@ module _ {D : Dictionary} {s : List ℕ} {place left depth : ℕ} {before : List
 
   -- they are written there, and it came back
   pub one-filled : {w : Ran} {back : List ℕ}
-      → Written D (tree (avps D) own) (place + at) depth w (take (length now - n * recordSize) (drop (n * recordSize) now)) back
+      → Recorded D (tree (avps D) own) (place + at) depth w (take (length now - n * recordSize) (drop (n * recordSize) now)) back
       → Filling D (tree (avps D) s) (tree (avps D) (drop (at + a .size) s)) place (place + (at + a .size)) depth (n + w .records) (join e (w .errors))
       before (putMid (n * recordSize) (length now - n * recordSize) now back)
   one-filled {w} {back} one =

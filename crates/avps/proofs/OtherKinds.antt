@@ -6,7 +6,7 @@ use mathlib.Core.Path.{_≡_, refl}
 use mathlib.Core.Bool.{false}
 use mathlib.Core.List.{List}
 use lib.Dec.{eqb}
-use Rattle.rfc6733.specs.Value.{Value, readAs}
+use Rattle.rfc6733.specs.Value.{Value, dataAs}
 use Rattle.record.specs.Kinds.{grouped}
 use Rattle.rfc6733.specs.Dictionary.{rfc, sawp}
 use Rattle.rfc6733.proofs.KindsRead.{Kind, kind-read, bare-kind, family-kind}
@@ -18,7 +18,7 @@ use Rattle.attribute.specs.Attributes.{dictionary}
 abbrev pub Other : ℕ → Type 0
 Other k = eqb k grouped ≡ false
 
-pub other-read : (k : ℕ) → Other k → (s : List ℕ) (asAddress : List ℕ → Value) → Kind Other (asAddress s) → Kind Other (readAs asAddress k s)
+pub other-read : (k : ℕ) → Other k → (s : List ℕ) (asAddress : List ℕ → Value) → Kind Other (asAddress s) → Kind Other (dataAs asAddress k s)
 other-read = kind-read Other refl
 
 -- an Address in either reading

@@ -34,7 +34,7 @@ use Rattle.front.proofs.Fronts.{Here, here}
 use Rattle.record.specs.declared.Record.{Record}
 use Rattle.record.specs.Stored.{recordAs, put}
 use Rattle.avps.specs.declared.fill.Valued.{Valued}
-use Rattle.avps.specs.Fill.{Room, Written, Members}
+use Rattle.avps.specs.Fill.{Room, Recorded, Members}
 
 -- the data as `&s[from..to]` lends them, and the padding as `&s[to..]` does
 abbrev pub lentData : List ℕ → AVP → ℕ → List ℕ
@@ -159,7 +159,7 @@ module _ (D : Dictionary) {s : List ℕ} {a : AVP} {from : ℕ} (o : Opened s a 
       → oe ≡ join (flag (not (eqb (avpReserved (a .flags)) 0)) nonZeroReserved) (flag (not (eqb p 0)) nonZeroPadding)
       → e ≡ join oe (m .errors)
       → last ≡ put (recordAs (ownRecord a from place depth p e m)) (putMid recordSize (length store - recordSize) store back)
-      → Written D (tree (avps D) s) place depth (record { records = 1 + m .records; errors = e }) store last
+      → Recorded D (tree (avps D) s) place depth (record { records = 1 + m .records; errors = e }) store last
   avp-written {place = place} {depth = depth} {store} {back} {m} {p} {oe} {e} room v ep eo ee el =
       let t = made-here in
       let w = valueIn D (a .code) (a .«vendor_id») (lentData s a from) in

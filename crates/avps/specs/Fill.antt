@@ -27,7 +27,7 @@ pub record Room (t : Tree) (place n left l : ℕ) : Type 0 where
   pub levels-fit : left ≤ mostDepth
 
 -- the records of t stand at the front of the store; their number and their flags are answered
-pub record Written (D : Dictionary) (t : Tree) (place depth : ℕ) (r : Ran) (before after : List ℕ) : Type 0 where
+pub record Recorded (D : Dictionary) (t : Tree) (place depth : ℕ) (r : Ran) (before after : List ℕ) : Type 0 where
   pub count-is : r .records ≡ recordCount t
   pub errors-are : r .errors ≡ errors D t
   pub store-is : after ≡ over (laid (records D place depth t)) before

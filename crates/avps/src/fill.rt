@@ -19,7 +19,7 @@ ghost use Rattle.rfc6733.specs.Records.{avps};
 ghost use Rattle.rfc6733.specs.Entered.{entered};
 ghost use Rattle.front.specs.Front.{avpOf};
 ghost use Rattle.attribute.specs.Attributes.{dictionary, kindTable};
-ghost use Rattle.avps.specs.Fill.{depthAt, Room, Written, Members};
+ghost use Rattle.avps.specs.Fill.{depthAt, Room, Recorded, Members};
 
 // How many records, and their error flags joined.
 pub(super) struct Ran {
@@ -70,7 +70,7 @@ pub(super) fn read_run(
     requires { ⌜ tiles (tree (avps (dictionary reading)) (now s)) ≡ true ⌝ }
     requires { ⌜ Room (tree (avps (dictionary reading)) (now s)) place (length (now s)) left (length (now store)) ⌝ }
     requires { ⌜ now kinds ≡ kindTable reading ⌝ }
-    ensures { λ r. ⌜ Written (dictionary reading) (tree (avps (dictionary reading)) (now (s .entry))) place (depthAt left) r (now (store .entry)) (now (store .exit)) ⌝ }
+    ensures { λ r. ⌜ Recorded (dictionary reading) (tree (avps (dictionary reading)) (now (s .entry))) place (depthAt left) r (now (store .entry)) (now (store .exit)) ⌝ }
 {
     let mut at: usize = 0;
     let mut n: usize = 0;
@@ -109,7 +109,7 @@ fn read_avp(
     requires { ⌜ (a ≡ avpOf (now s)) × Exact (now s) ⌝ }
     requires { ⌜ Room (tree (avps (dictionary reading)) (now s)) place (length (now s)) left (length (now store)) ⌝ }
     requires { ⌜ now kinds ≡ kindTable reading ⌝ }
-    ensures { λ r. ⌜ Written (dictionary reading) (tree (avps (dictionary reading)) (now (s .entry))) place (depthAt left) r (now (store .entry)) (now (store .exit)) ⌝ }
+    ensures { λ r. ⌜ Recorded (dictionary reading) (tree (avps (dictionary reading)) (now (s .entry))) place (depthAt left) r (now (store .entry)) (now (store .exit)) ⌝ }
 {
     let from = a.header_size();
     let to = a.length;

@@ -13,7 +13,7 @@ use Rattle.octets.specs.Run.{Tree, done, group, tree, tiles, tried, deepest}
 use Rattle.rfc6733.specs.Avp.{payload, Exact}
 use Rattle.record.specs.Kinds.{grouped}
 use Rattle.rfc6733.specs.Dictionary.{Dictionary}
-use Rattle.rfc6733.specs.Records.{kindOf, avps, recordCount}
+use Rattle.rfc6733.specs.Records.{avpKind, avps, recordCount}
 use Rattle.rfc6733.proofs.Alone.{Joined, exact-tree, alone-plain, alone-group}
 use Rattle.rfc6733.proofs.RunRecords.{count-tried}
 use Rattle.rfc6733.proofs.Tried.{tried-length}
@@ -108,15 +108,15 @@ module _ {left : ℕ} {t r : Tree} {n k : ℕ} (p : Passed left t r n k) where
 -- ---- one AVP
 
 module _ (D : Dictionary) (a : List ℕ) (e : Exact a) (left : ℕ) (some : 0 < left) where
-  pub one-plain : (kindOf D a ≡ grouped → ⊥) → Counts true 1 1 ≡ levelOf left (tree (avps D) a)
+  pub one-plain : (avpKind D a ≡ grouped → ⊥) → Counts true 1 1 ≡ levelOf left (tree (avps D) a)
   one-plain p =
-      rw (exact-tree D a e, alone-plain D a (ne-eqb (kindOf D a) grouped p))
+      rw (exact-tree D a e, alone-plain D a (ne-eqb (avpKind D a) grouped p))
       (counts (record { shallow = omega arith; tiles-is = refl; records-is = refl; tried-is = refl }))
 
-  module _ (g : kindOf D a ≡ grouped) where
+  module _ (g : avpKind D a ≡ grouped) where
     pub one-deep : left - 1 < deepest (tree (avps D) (payload a)) → TooDeep ≡ levelOf left (tree (avps D) a)
     one-deep h =
-        rw (exact-tree D a e, alone-group D a (eq-eqb (kindOf D a) grouped g))
+        rw (exact-tree D a e, alone-group D a (eq-eqb (avpKind D a) grouped g))
         (deep left (group a (tree (avps D) (payload a)) done) (omega arith))
 
     -- the records of its members are counted where it tiles
@@ -125,5 +125,5 @@ module _ (D : Dictionary) (a : List ℕ) (e : Exact a) (left : ℕ) (some : 0 < 
     one-group {b} {n} {k} m w h =
         let i = tree (avps D) (payload a) in
         let z : m ≡ cond (tiles i) (recordCount i) 0 = h ∙ rw (← w .tiles-is, ← w .records-is) in
-        rw (exact-tree D a e, alone-group D a (eq-eqb (kindOf D a) grouped g))
+        rw (exact-tree D a e, alone-group D a (eq-eqb (avpKind D a) grouped g))
         (counts (record { shallow = omega arith; tiles-is = refl; records-is = omega arith; tried-is = omega arith }))

@@ -12,17 +12,17 @@ pub data Forest : Type 0 where
   node : Record → Forest → Forest → Forest
 
 -- the leading ones of depth d or deeper, and what is after them
-abbrev pub front : ℕ → Forest → Forest
-front d none = none
-front d (node r members rest) = cond (leb d (r .depth)) (node r members (front d rest)) none
+abbrev pub leading : ℕ → Forest → Forest
+leading d none = none
+leading d (node r members rest) = cond (leb d (r .depth)) (node r members (leading d rest)) none
 
-abbrev pub behind : ℕ → Forest → Forest
-behind d none = none
-behind d (node r members rest) = cond (leb d (r .depth)) (behind d rest) (node r members rest)
+abbrev pub following : ℕ → Forest → Forest
+following d none = none
+following d (node r members rest) = cond (leb d (r .depth)) (following d rest) (node r members rest)
 
 -- a record before a forest: the leading ones that are deeper are its members
 abbrev pub plant : Record → Forest → Forest
-plant r f = node r (front (r .depth + 1) f) (behind (r .depth + 1) f)
+plant r f = node r (leading (r .depth + 1) f) (following (r .depth + 1) f)
 
 abbrev pub forest : List Record → Forest
 forest [] = none

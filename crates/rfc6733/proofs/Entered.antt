@@ -13,7 +13,7 @@ use Rattle.rfc6733.specs.Avp as avp
 use Rattle.rfc6733.specs.Value.{Value}
 use Rattle.record.specs.Kinds.{grouped}
 use Rattle.rfc6733.specs.Dictionary.{Dictionary}
-use Rattle.rfc6733.specs.Records.{kindOf, valueOf, ownErrors, recordOf, avps, tiling, errors, groupValue, records, recordCount}
+use Rattle.rfc6733.specs.Records.{avpKind, valueOf, ownErrors, recordOf, avps, tiling, errors, groupValue, records, recordCount}
 use Rattle.rfc6733.specs.Entered.{valueIn, entered}
 use Rattle.rfc6733.proofs.Alone.{alone}
 use Rattle.flags.proofs.Joins.{join-zero}
@@ -56,7 +56,7 @@ module _ (D : Dictionary) (a : List ℕ) where
       }
 
   pub made : Made D a (alone D a) (valueIn D (avp.code a) (avp.vendor a) (avp.payload a)) (entered D (avp.code a) (avp.vendor a) (avp.payload a))
-  unfolding alone valueIn entered kindOf valueOf
+  unfolding alone valueIn entered avpKind valueOf
   made = by (eqb (D .kind (avp.code a) (avp.vendor a)) grouped)
     where
       by : (b : Bool)

@@ -16,7 +16,7 @@ use Rattle.flags.specs.Flags.{bit}
 use Rattle.rfc6733.specs.Avp.{headSize, vendor, dataSize, padding, avpSize, payload, avpRefusals, complete, mostDepth}
 use Rattle.record.specs.Kinds.{grouped}
 use Rattle.rfc6733.specs.Dictionary.{Dictionary}
-use Rattle.rfc6733.specs.Records.{kindOf, avps, records}
+use Rattle.rfc6733.specs.Records.{avpKind, avps, records}
 use Rattle.rfc6733.specs.Decoder.{allowed, runRecords, runCounts, messageBody, messageRefusals, messageOf, decoded}
 use Rattle.rfc6733.specs.Marked.{failing}
 use Rattle.rfc6733.specs.Writer.{most24}
@@ -37,7 +37,7 @@ module _ (D : Dictionary) (is-grouped : D .kind 279 0 ≡ grouped) where
   group-first t = whole-complete (failing ++ t) (record { eight = omega arith; long = omega arith; room = omega arith })
 
   chained : (k : ℕ) → tree (avps D) (failingGroups k) ≡ chain k
-  unfolding be item after headSize bit vendor dataSize padding avpSize payload kindOf tree treeIn complete avpRefusals
+  unfolding be item after headSize bit vendor dataSize padding avpSize payload avpKind tree treeIn complete avpRefusals
   chained zero = refl
   chained (suc k) =
       tree-group (avps D) (sound (avps D .nested)) (failing ++ failingGroups k) (group-first (failingGroups k)) (eq-eqb (D .kind 279 0) grouped is-grouped)

@@ -9,7 +9,7 @@ use lib.Dec.{ltb, eqb}
 use Rattle.octets.specs.Octets.{be}
 use Rattle.rfc3629.specs.Utf8.{wellFormed}
 use Rattle.flags.specs.Flags.{dataValue, dataLength, flag}
-use Rattle.rfc6733.specs.Value.{Value, value, fixed, text, oneOf, readAs}
+use Rattle.rfc6733.specs.Value.{Value, value, fixed, text, oneOf, dataAs}
 use Rattle.record.specs.Kinds.{unhandled, integer32, integer64, unsigned32, unsigned64, float32, float64, enumerated, utf8String, diameterIdentity, diameterURI, address, time}
 use Rattle.rfc6733.specs.Dictionary.{familyAddress, bareAddress}
 
@@ -39,8 +39,8 @@ module _ (P : ℕ → Type 0) (none : P unhandled) where
     unfolding text
     a-text = either (wellFormed s) (of-kind 0 0) (not-handled dataValue)
 
-    pub kind-read : (asAddress : List ℕ → Value) → Kind P (asAddress s) → Kind P (readAs asAddress k s)
-    unfolding readAs
+    pub kind-read : (asAddress : List ℕ → Value) → Kind P (asAddress s) → Kind P (dataAs asAddress k s)
+    unfolding dataAs
     kind-read asAddress h =
         either (oneOf k (integer32 ∷ unsigned32 ∷ float32 ∷ enumerated ∷ time ∷ [])) (a-number 4)
         (either (oneOf k (integer64 ∷ unsigned64 ∷ float64 ∷ [])) (a-number 8)

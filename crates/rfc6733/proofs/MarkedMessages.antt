@@ -8,9 +8,9 @@ use Rattle.rfc3629.specs.Utf8.{charSize, wellFormed}
 use Rattle.flags.specs.Flags.{bit, join}
 use Rattle.rfc6733.specs.Header.{headerOf, headerErrors, headerRefusals}
 use Rattle.rfc6733.specs.Avp.{headSize, vendor, dataSize, padding, avpSize, payload, pads, avpRefusals, complete}
-use Rattle.rfc6733.specs.Value.{fixed, text, readAs}
+use Rattle.rfc6733.specs.Value.{fixed, text, dataAs}
 use Rattle.rfc6733.specs.Dictionary.{familyAddress, bareAddress, rfc, sawp}
-use Rattle.rfc6733.specs.Records.{kindOf, valueOf, ownErrors, recordOf, groupValue}
+use Rattle.rfc6733.specs.Records.{avpKind, valueOf, ownErrors, recordOf, groupValue}
 use Rattle.rfc6733.specs.Decoder.{allowed, runRecords, runCounts, messageBody, messageRecords, messageRefusals, messageOf, decoded}
 use Rattle.rfc6733.specs.Dump.{Dump, dump}
 use Rattle.rfc6733.specs.Marked.{Case, marked, shown}
@@ -19,5 +19,5 @@ abbrev expected : List Dump
 expected = map (λ (c : Case). c .shows) marked
 
 pub marked-messages : (map (shown sawp) marked ≡ expected) × (map (shown rfc) marked ≡ expected)
-unfolding be item after treeIn tree charSize wellFormed bit join headerOf headerErrors headerRefusals headSize vendor dataSize padding avpSize payload pads avpRefusals complete fixed text readAs familyAddress bareAddress rfc sawp kindOf valueOf ownErrors recordOf groupValue allowed runRecords runCounts messageBody messageRecords messageRefusals messageOf decoded dump
+unfolding be item after treeIn tree charSize wellFormed bit join headerOf headerErrors headerRefusals headSize vendor dataSize padding avpSize payload pads avpRefusals complete fixed text dataAs familyAddress bareAddress rfc sawp avpKind valueOf ownErrors recordOf groupValue allowed runRecords runCounts messageBody messageRecords messageRefusals messageOf decoded dump
 marked-messages = (refl, refl)

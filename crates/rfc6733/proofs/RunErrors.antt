@@ -13,10 +13,10 @@ use Rattle.octets.proofs.Numbers.{be-small}
 use Rattle.rfc3629.specs.Utf8.{wellFormed}
 use Rattle.flags.specs.Flags.{dataValue, dataLength, nonZeroReserved, nonZeroPadding, flag}
 use Rattle.rfc6733.specs.Avp.{flags, avpReserved, payload, pads}
-use Rattle.rfc6733.specs.Value.{Value, value, fixed, text, oneOf, readAs}
+use Rattle.rfc6733.specs.Value.{Value, value, fixed, text, oneOf, dataAs}
 use Rattle.record.specs.Kinds.{unhandled, integer32, integer64, unsigned32, unsigned64, float32, float64, enumerated, utf8String, diameterIdentity, diameterURI, address, time}
 use Rattle.rfc6733.specs.Dictionary.{Dictionary, familyAddress, bareAddress, rfc, sawp}
-use Rattle.rfc6733.specs.Records.{kindOf, valueOf, ownErrors, errors}
+use Rattle.rfc6733.specs.Records.{avpKind, valueOf, ownErrors, errors}
 use Rattle.flags.proofs.Joins.{join-small, flag-small}
 
 -- a value that was read of s: its flags are below 16, and its number fits eight bytes
@@ -59,8 +59,8 @@ unfolding text
 text-small k s = either (wellFormed s) (unnumbered s k 0 (omega arith)) (unnumbered s unhandled dataValue (omega arith))
 
 module _ (asAddress : List ℕ → Value) (address-small : (s : List ℕ) → Small s (asAddress s)) where
-  read-small : (k : ℕ) (s : List ℕ) → Small s (readAs asAddress k s)
-  unfolding readAs
+  read-small : (k : ℕ) (s : List ℕ) → Small s (dataAs asAddress k s)
+  unfolding dataAs
   read-small k s =
       either (oneOf k (integer32 ∷ unsigned32 ∷ float32 ∷ enumerated ∷ time ∷ [])) (fixed-small 4 k s (four s 0))
       (either (oneOf k (integer64 ∷ unsigned64 ∷ float64 ∷ [])) (fixed-small 8 k s (be-small 8 s 0))
@@ -70,7 +70,7 @@ module _ (asAddress : List ℕ → Value) (address-small : (s : List ℕ) → Sm
 module _ (D : Dictionary) (address-small : (s : List ℕ) → Small s (D .asAddress s)) where
   pub value-small : (a : List ℕ) → Small (payload a) (valueOf D a)
   unfolding valueOf
-  value-small a = read-small (D .asAddress) address-small (kindOf D a) (payload a)
+  value-small a = read-small (D .asAddress) address-small (avpKind D a) (payload a)
 
   pub errors-small : (t : Tree) → errors D t < 16
   errors-small done = omega arith

@@ -6,7 +6,7 @@ use mathlib.Core.Bool.{cond, _&&_}
 use mathlib.Core.List.{List}
 use lib.Dec.{eqb}
 use Rattle.octets.specs.Run.{Tree, done, tree}
-use Rattle.rfc6733.specs.Value.{Value, readAs}
+use Rattle.rfc6733.specs.Value.{Value, dataAs}
 use Rattle.record.specs.Kinds.{grouped}
 use Rattle.rfc6733.specs.Dictionary.{Dictionary}
 use Rattle.rfc6733.specs.Records.{avps, tiling, groupValue}
@@ -14,7 +14,7 @@ use Rattle.rfc6733.specs.Records.{avps, tiling, groupValue}
 -- the value, that of a group being its payload's
 unfoldable pub valueIn : Dictionary → ℕ → ℕ → List ℕ → Value
 valueIn D code vendor s =
-    cond (eqb (D .kind code vendor) grouped) (groupValue D (tree (avps D) s)) (readAs (D .asAddress) (D .kind code vendor) s)
+    cond (eqb (D .kind code vendor) grouped) (groupValue D (tree (avps D) s)) (dataAs (D .asAddress) (D .kind code vendor) s)
 
 -- the run that is entered: that of a group that tiles, and else none
 unfoldable pub entered : Dictionary → ℕ → ℕ → List ℕ → Tree

@@ -9,7 +9,7 @@ use Rattle.octets.specs.Octets.{Field, pack, Layout, total, fieldsOf, valueAt}
 use Rattle.octets.specs.Run.{Format, Tree, done, broken, plain, group, tree, tiles}
 use Rattle.flags.specs.Flags.{dataValue, nonZeroReserved, nonZeroPadding, flag, join}
 use Rattle.rfc6733.specs.Avp as avp
-use Rattle.rfc6733.specs.Value.{Value, value, readAs}
+use Rattle.rfc6733.specs.Value.{Value, value, dataAs}
 use Rattle.record.specs.Kinds.{unhandled, grouped}
 use Rattle.rfc6733.specs.Dictionary.{Dictionary}
 use Rattle.record.specs.Record.{Record}
@@ -17,12 +17,12 @@ use Rattle.record.specs.Record.{Record}
 -- ---- an AVP's record
 
 -- the kind that the dictionary has for an AVP
-unfoldable pub kindOf : Dictionary → List ℕ → ℕ
-kindOf D a = D .kind (avp.code a) (avp.vendor a)
+unfoldable pub avpKind : Dictionary → List ℕ → ℕ
+avpKind D a = D .kind (avp.code a) (avp.vendor a)
 
 -- what it makes of the data of one that is not Grouped
 unfoldable pub valueOf : Dictionary → List ℕ → Value
-valueOf D a = readAs (D .asAddress) (kindOf D a) (avp.payload a)
+valueOf D a = dataAs (D .asAddress) (avpKind D a) (avp.payload a)
 
 -- reserved bits and padding raise their flags besides any flag of the kind
 unfoldable pub ownErrors : List ℕ → ℕ
@@ -54,7 +54,7 @@ avps D =
     record {
       complete = avp.complete;
       size = avp.avpSize;
-      nested = λ a. eqb (kindOf D a) grouped;
+      nested = λ a. eqb (avpKind D a) grouped;
       payload = avp.payload;
     }
 

@@ -34,8 +34,8 @@ oneOf k [] = false
 oneOf k (x ∷ xs) = eqb k x || oneOf k xs
 
 -- data read as the kind k, which is not Grouped. How an Address is read is a parameter
-unfoldable pub readAs : (List ℕ → Value) → ℕ → List ℕ → Value
-readAs asAddress k s =
+unfoldable pub dataAs : (List ℕ → Value) → ℕ → List ℕ → Value
+dataAs asAddress k s =
     cond (oneOf k (integer32 ∷ unsigned32 ∷ float32 ∷ enumerated ∷ time ∷ [])) (fixed 4 k s)
     (cond (oneOf k (integer64 ∷ unsigned64 ∷ float64 ∷ [])) (fixed 8 k s)
     (cond (oneOf k (utf8String ∷ diameterIdentity ∷ diameterURI ∷ [])) (text k s)

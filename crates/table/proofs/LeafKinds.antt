@@ -12,7 +12,7 @@ use Rattle.rfc6733.specs.Avp.{payload}
 use Rattle.rfc6733.specs.Value.{Value}
 use Rattle.record.specs.Kinds.{unhandled, grouped, time}
 use Rattle.rfc6733.specs.Dictionary.{Dictionary, Row, kindIn, baseAvps, sawpAvps, rfc, sawp}
-use Rattle.rfc6733.specs.Records.{kindOf, valueOf}
+use Rattle.rfc6733.specs.Records.{avpKind, valueOf}
 use Rattle.refusal.proofs.Answers.{and-true}
 use Rattle.rfc6733.proofs.KindsRead.{Kind, kind-read, bare-kind, family-kind}
 use Rattle.table.specs.Trip.{Ungrouped, Lawful}
@@ -26,12 +26,12 @@ Leaf k = (k ≤ time) × (eqb k grouped ≡ false)
 ungrouped : {v : Value} → Kind Leaf v → Ungrouped v
 ungrouped h = record { low = h .holds .0; other = h .holds .1 }
 
-pub value-leaf : (D : Dictionary) → Lawful D → (a : List ℕ) → eqb (kindOf D a) grouped ≡ false → Ungrouped (valueOf D a)
-unfolding valueOf kindOf
+pub value-leaf : (D : Dictionary) → Lawful D → (a : List ℕ) → eqb (avpKind D a) grouped ≡ false → Ungrouped (valueOf D a)
+unfolding valueOf avpKind
 value-leaf D lawful a e =
     let h = lawful .addresses (payload a) in
     ungrouped
-    (kind-read Leaf (omega arith, refl) (kindOf D a) (lawful .kinds _ _, e) (payload a) (D .asAddress) (record { holds = (h .low, h .other) }))
+    (kind-read Leaf (omega arith, refl) (avpKind D a) (lawful .kinds _ _, e) (payload a) (D .asAddress) (record { holds = (h .low, h .other) }))
 
 -- ---- the two dictionaries
 

@@ -10,7 +10,7 @@ use lib.ListN.{length, length-append}
 use lib.Dec.{leb}
 use borrow.Author.Tests.{le-leb, lt-leb}
 use Rattle.record.specs.Record.{Record}
-use Rattle.record.specs.Forest.{Forest, none, node, front, behind, forest, flat}
+use Rattle.record.specs.Forest.{Forest, none, node, leading, following, forest, flat}
 use Rattle.table.specs.Forests.{count}
 
 -- ---- a table, laid out again
@@ -22,9 +22,9 @@ split-node true r i t f g e =
 split-node false r i t f g e = refl
 
 -- the two parts of a forest at a depth are all of it
-split : (d : ℕ) (f : Forest) → flat (front d f) ++ flat (behind d f) ≡ flat f
+split : (d : ℕ) (f : Forest) → flat (leading d f) ++ flat (following d f) ≡ flat f
 split d none = refl
-split d (node r i t) = split-node (leb d (r .depth)) r i t (front d t) (behind d t) (split d t)
+split d (node r i t) = split-node (leb d (r .depth)) r i t (leading d t) (following d t) (split d t)
 
 pub flat-forest : (rs : List Record) → flat (forest rs) ≡ rs
 flat-forest [] = refl
@@ -55,11 +55,11 @@ follow-none : (f : Forest) → follow f none ≡ f
 follow-none none = refl
 follow-none (node r i t) = ap (node r i) (follow-none t)
 
-low-parts : (d : ℕ) (g : Forest) → Low d g → (front d g ≡ none) × (behind d g ≡ g)
+low-parts : (d : ℕ) (g : Forest) → Low d g → (leading d g ≡ none) × (following d g ≡ g)
 low-parts d none h = (refl, refl)
 low-parts d (node r i t) h = rw (lt-leb d (r .depth) h) (refl, refl)
 
-follow-parts : (d : ℕ) (f g : Forest) → Level d f → Low d g → (front d (follow f g) ≡ f) × (behind d (follow f g) ≡ g)
+follow-parts : (d : ℕ) (f g : Forest) → Level d f → Low d g → (leading d (follow f g) ≡ f) × (following d (follow f g) ≡ g)
 follow-parts d none g l h = low-parts d g h
 follow-parts d (node r i t) g (more e l m) h =
     let p = follow-parts d t g m h in

@@ -9,7 +9,7 @@ use native.Mathlib.Omega.{arith}
 use lib.ListN.{length, drop, length-drop}
 use borrow.Author.Tests.{le-leb, lt-leb}
 use Rattle.record.specs.Record.{Record, recordSize}
-use Rattle.record.specs.Forest.{none, node, front, forest}
+use Rattle.record.specs.Forest.{none, node, leading, forest}
 use Rattle.record.specs.Table.{entryAt, tableOf}
 use Rattle.rfc6733.specs.Writer.{isGroup, allowedAfter}
 use Rattle.table.specs.Forests.{count}
@@ -17,7 +17,7 @@ use Rattle.table.specs.Rules.{Good, Valid}
 use Rattle.table.specs.Tables.{run, one}
 use Rattle.table.proofs.Rules.{keeps-good}
 use Rattle.table.proofs.Shape.{flat-forest, count-flat}
-use Rattle.table.proofs.Tails.{front-fewer, forest-tail, valid-tail}
+use Rattle.table.proofs.Tails.{leading-fewer, forest-tail, valid-tail}
 use Rattle.table.proofs.Tables.{table-none, table-some, table-drop, table-length}
 
 -- ---- where a run ends: the table ends, or goes on above it
@@ -35,7 +35,7 @@ pub none-deeper : (d n : ℕ) (s : List ℕ) → Valid d n (tableOf s) → run (
 unfolding run
 none-deeper d n s v = by (tableOf s) v
   where
-    by : (rs : List Record) → Valid d n rs → front (d + 1) (forest rs) ≡ none
+    by : (rs : List Record) → Valid d n rs → leading (d + 1) (forest rs) ≡ none
     by [] w = refl
     by (r ∷ rs) w = rw (lt-leb (d + 1) (r .depth) (omega (arith, keeps-good d n r (w .0))))
 
@@ -60,7 +60,7 @@ module _ (d : ℕ) (s : List ℕ) (some : recordSize ≤ length s) (level : entr
   unfolding one run
   one-at = rw (table-some s some) (rw level)
 
-  count-one : count (one s) ≡ suc (count (front (d + 1) (forest others)))
+  count-one : count (one s) ≡ suc (count (leading (d + 1) (forest others)))
   unfolding run
   count-one = ap count one-at ∙ omega arith
 
@@ -69,7 +69,7 @@ module _ (d : ℕ) (s : List ℕ) (some : recordSize ≤ length s) (level : entr
       omega (
         arith,
         count-one,
-        front-fewer (d + 1) (forest others),
+        leading-fewer (d + 1) (forest others),
         count-flat (forest others),
         ap length (flat-forest others),
         table-length (drop recordSize s),
@@ -77,7 +77,7 @@ module _ (d : ℕ) (s : List ℕ) (some : recordSize ≤ length s) (level : entr
       )
 
   -- the table after the first record and its members
-  rest-is : tableOf (drop (count (one s) * recordSize) s) ≡ drop (count (front (d + 1) (forest others))) others
+  rest-is : tableOf (drop (count (one s) * recordSize) s) ≡ drop (count (leading (d + 1) (forest others))) others
   rest-is = table-drop (count (one s)) s one-fits ∙ ap₂ (λ (k : ℕ) (l : List Record). drop k l) count-one (table-some s some)
 
   run-at : run d s ≡ node (entryAt s) (run (d + 1) (drop recordSize s)) (run d (drop (count (one s) * recordSize) s))

@@ -4,7 +4,7 @@ use Prim.Native.Nat.{ℕ}
 use mathlib.Core.List.{List, [], _∷_}
 use Rattle.octets.specs.Octets.{Fit}
 use Rattle.record.specs.Record.{Record, recordLayout}
-use Rattle.record.specs.Forest.{Forest, front, forest}
+use Rattle.record.specs.Forest.{Forest, leading, forest}
 use Rattle.record.specs.Table.{bare, tableOf}
 use Rattle.table.specs.Forests.{first}
 
@@ -18,7 +18,7 @@ AllFit (r ∷ rs) = Fits r × AllFit rs
 
 -- the run of depth d or deeper that a table starts with; and its first record with its members
 unfoldable pub run : ℕ → List ℕ → Forest
-run d s = front d (forest (tableOf s))
+run d s = leading d (forest (tableOf s))
 
 unfoldable pub one : List ℕ → Forest
 one s = first (forest (tableOf s))

@@ -23,7 +23,7 @@ use Rattle.value.proofs.Shown.{Made, read-as, no-address, a-number, is-
 -- the data s as the kind k
 abbrev ofKind : (List ℕ → rfc.Value) → List ℕ → ℕ → rfc.Value
 ofKind asAddress s k =
-    cond (eqb k grouped) (cond (tiling s) (value grouped 0 0) (value unhandled dataValue 0)) (rfc.readAs asAddress k s)
+    cond (eqb k grouped) (cond (tiling s) (value grouped 0 0) (value unhandled dataValue 0)) (rfc.dataAs asAddress k s)
 
 -- the kind k has the one form f, and is no Address
 abbrev Formed : (List ℕ → rfc.Value) → List ℕ → (ℕ → List ℕ → rfc.Value) → ℕ → Type 0
@@ -38,12 +38,12 @@ module _ (D : Dictionary) (s : List ℕ) (k : ℕ) (r : Read) where
   by-kind j v at form h = let new : newValue D (known k) s ≡ v = ap (ofKind (D .asAddress) s) at ∙ form in rw new h
 
   pub octet-string : k ≡ octetString → Made OctetString 0 r → Shows (newValue D (known k) s) s r
-  unfolding rfc.readAs
+  unfolding rfc.dataAs
   octet-string at made =
       by-kind octetString (value octetString 0 0) (ap known at) refl (no-address s r _ (read-as r OctetString 0 made) refl)
 
   pub not-handled : known k ≡ unhandled → Made Unhandled 0 r → Shows (newValue D (known k) s) s r
-  unfolding rfc.readAs
+  unfolding rfc.dataAs
   not-handled at made = by-kind unhandled (value unhandled 0 0) at refl (is-unhandled s r 0 made)
 
   -- one of the kinds ks of numbers of w bytes
@@ -54,11 +54,11 @@ module _ (D : Dictionary) (s : List ℕ) (k : ℕ) (r : Read) where
       by-kind (known k) (fixed w k s) refl (n .0) (a-number s r w k e (n .1))
 
   pub number-32 : OneOf kinds32 k → readAs r ≡ fixed 4 k s → Shows (newValue D (known k) s) s r
-  unfolding rfc.readAs
+  unfolding rfc.dataAs
   number-32 = number 4 kinds32 ((refl, refl), ((refl, refl), ((refl, refl), ((refl, refl), ((refl, refl), tt)))))
 
   pub number-64 : OneOf kinds64 k → readAs r ≡ fixed 8 k s → Shows (newValue D (known k) s) s r
-  unfolding rfc.readAs
+  unfolding rfc.dataAs
   number-64 = number 8 kinds64 ((refl, refl), ((refl, refl), ((refl, refl), tt)))
 
   -- a value of the kind k whose data are tested
@@ -68,7 +68,7 @@ module _ (D : Dictionary) (s : List ℕ) (k : ℕ) (r : Read) where
     tested b form is none other = by-kind (known (kindOf v)) _ (ap known at) form (rw is at (by-test s r ok v none other made))
 
     pub text-kind : OneOf textKinds (kindOf v) → numberOf v ≡ 0 → ok ≡ wellFormed s → Shows (newValue D (known k) s) s r
-    unfolding rfc.readAs text
+    unfolding rfc.dataAs text
     text-kind one none well =
         let n = of-one (Formed (D .asAddress) s text) textKinds ((refl, refl), ((refl, refl), ((refl, refl), tt))) (kindOf v) one in
         tested (wellFormed s) (n .0) well none (n .1)
@@ -78,5 +78,5 @@ module _ (D : Dictionary) (s : List ℕ) (k : ℕ) (r : Read) where
   group-kind ok at made tiles = tested ok Grouped at made (tiling s) refl tiles refl refl
 
   pub address-kind : k ≡ address → Shows (D .asAddress s) s r → Shows (newValue D (known k) s) s r
-  unfolding rfc.readAs
+  unfolding rfc.dataAs
   address-kind at h = by-kind address (D .asAddress s) (ap known at) refl h

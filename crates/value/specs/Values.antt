@@ -88,4 +88,4 @@ unfoldable pub newValue : Dictionary → ℕ → List ℕ → rfc.Value
 newValue D k s =
     cond (eqb k kinds.grouped)
     (cond (tiling s) (rfc.value kinds.grouped 0 0) (rfc.value kinds.unhandled dataValue 0))
-    (rfc.readAs (D .asAddress) k s)
+    (rfc.dataAs (D .asAddress) k s)

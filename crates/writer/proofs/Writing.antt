@@ -13,7 +13,7 @@ use Rattle.octets.proofs.Numbers.{length-pack}
 use Rattle.octets.proofs.Lists.{over-before, lent}
 use Rattle.refusal.specs.Answer.{accepted, refused, badHeader, badTable, tooLong, noRoom}
 use Rattle.record.specs.Record.{recordSize}
-use Rattle.record.specs.Forest.{Forest, none, node, front, forest}
+use Rattle.record.specs.Forest.{Forest, none, node, leading, forest}
 use Rattle.rfc6733.specs.Writer.{Fields, keepers, forestBytes, messageBytes, tableBytes, most24, written, headerFields}
 use Rattle.record.specs.Table.{tableOf}
 use Rattle.table.specs.Forests.{size}
@@ -29,13 +29,13 @@ use Rattle.writer.specs.Emitting.{Done}
 
 -- ---- the whole table is one run
 
-front-all : (n : ℕ) (f : Forest) → Kept n f → front 1 f ≡ f
-front-all n none k = refl
-front-all n (node r i t) k = rw (le-leb 1 (r .depth) (k .0 .some)) (ap (node r i) (front-all n t (k .2)))
+leading-all : (n : ℕ) (f : Forest) → Kept n f → leading 1 f ≡ f
+leading-all n none k = refl
+leading-all n (node r i t) k = rw (le-leb 1 (r .depth) (k .0 .some)) (ap (node r i) (leading-all n t (k .2)))
 
 run-all : (n : ℕ) (table : List ℕ) → Valid 1 n (tableOf table) → run 1 table ≡ forest (tableOf table)
 unfolding run
-run-all n table v = front-all n (forest (tableOf table)) (valid-kept 1 n (tableOf table) v)
+run-all n table v = leading-all n (forest (tableOf table)) (valid-kept 1 n (tableOf table) v)
 
 pub record Total (f : Fields) (table pool : List ℕ) : Type 0 where
   pub bytes-is : length (forestBytes pool (run 1 table)) ≡ size (run 1 table)

@@ -19,7 +19,7 @@ use Rattle.octets.specs.Run.{Tree, done, broken, tree, tried}
 use Rattle.octets.proofs.Runs.{tree-none, tree-broken}
 use Rattle.rfc6733.specs.Avp.{payload}
 use Rattle.record.specs.Kinds.{grouped}
-use Rattle.rfc6733.specs.Records.{kindOf, avps}
+use Rattle.rfc6733.specs.Records.{avpKind, avps}
 use Rattle.rfc6733.proofs.Items.{sound}
 use Rattle.rfc6733.proofs.Alone.{some-tried}
 use Rattle.attribute.specs.Attributes.{dictionary}
@@ -86,11 +86,11 @@ module _ (t : ℕ) where
 
   -- it is a group by the dictionary
   told : (c : count-avp-lts.After-is-grouped (count-avp-calls t) (count-avp-at t) count-avp.Post)
-      → let b = c .before .before in c .is-grouped .result ≡ eqb (kindOf (dictionary (b .args .reading)) (bytes b)) grouped
-  unfolding kindOf
+      → let b = c .before .before in c .is-grouped .result ≡ eqb (avpKind (dictionary (b .args .reading)) (bytes b)) grouped
+  unfolding avpKind
   told c = let h = here _ _ (c .before .before .pre .1 .0) in rw (h .code-is, h .vendor-is) at (c .is-grouped .ensures)
 
-  is-grouped : (e : Group) → kindOf (dictionary (entry e .args .reading)) (bytes (entry e)) ≡ grouped
+  is-grouped : (e : Group) → avpKind (dictionary (entry e .args .reading)) (bytes (entry e)) ≡ grouped
   is-grouped e = eqb-true _ _ (sym (told (e .before)) ∙ not-false _ (e .if1 .left))
 
   -- its payload is lent, and counted
