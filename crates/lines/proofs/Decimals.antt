@@ -48,7 +48,7 @@ spelled n (suc k) h f =
     let is = decimal-digits 19 k n h (f .1) (λ l. rw e at (f .2 l)) in
     record { is = is; size-is = ap length is ∙ digits-length 10 (suc k) n }
 
--- so where the digits but the last are
+-- one digit after others
 one-more : (m j n : ℕ) → n < 10 ^ suc j → ((i : ℕ) → n / 10 < 10 ^ suc i → length (decimalIn m (n / 10)) ≤ suc i)
     → length (decimalIn (suc m) n) ≤ suc j
 one-more m j n h others = by (ltb n 10) refl j h

@@ -1,12 +1,12 @@
 -- The text of an input, by what the decoder answers: the records that it stored are read back whole, so their lines are those of the
 -- definition, and the text fits.
 -- Assumes nothing.
-use Prim.Native.Nat.{ℕ, suc, _+_, _*_, _-_, _/_, _^_, _≤_, _<_, min}
+use Prim.Native.Nat.{ℕ, suc, _+_, _*_, _-_, _≤_, min}
 use mathlib.Core.Path.{_≡_, refl, sym, ap, ap₂, _∙_}
 use mathlib.Core.Bool.{Bool, true, false}
 use mathlib.Core.List.{List, [], _∷_, _++_, append-assoc}
 use native.Mathlib.Omega.{arith}
-use lib.ListN.{length, take, drop, replicate, length-append}
+use lib.ListN.{length, take, replicate, length-append}
 use lib.Seq.{take-all, drop-at, length-take-le}
 use lib.Dec.{leb}
 use borrow.Author.Tests.{leb-true, leb-false}
@@ -14,19 +14,17 @@ use Rattle.io.specs.Counts as io
 use Rattle.octets.specs.Octets.{Bytes, over}
 use Rattle.octets.proofs.Lists.{over-length}
 use Rattle.octets.proofs.Numbers.{be-small}
-use Rattle.refusal.specs.Answer.{Answer, accepted, refused}
+use Rattle.refusal.specs.Answer.{accepted, refused}
 use Rattle.rfc6733.specs.Header.{messageLength}
 use Rattle.rfc6733.specs.Dictionary.{sawp}
-use Rattle.record.specs.Record.{Record, recordSize, recordBytes, recordAt, laid}
+use Rattle.record.specs.Record.{Record, recordSize, recordBytes, laid}
 use Rattle.rfc6733.specs.Decoder.{Counts, Message, runCounts, messageRecords, messageOf, decoded}
-use Rattle.record.specs.Store.{stored}
 use Rattle.rfc6733.specs.Dump.{recordLines, firstLine, line, linesText, dump, dumpText, dumped}
 use Rattle.rfc6733.proofs.Accepted.{when-accepted}
 use Rattle.record.proofs.Layouts.{record-length, laid-length}
 use Rattle.table.specs.Tables.{AllFit}
-use Rattle.table.proofs.Packed.{bytes-take}
 use Rattle.table.proofs.Whole.{AllValued, record-back, Whole, sawp-whole}
-use Rattle.lines.specs.Text.{recordsIn, recordsText, messageText, refusalText, Room, Put}
+use Rattle.lines.specs.Text.{recordsIn, recordsText, messageText, refusalText, Put}
 use Rattle.lines.proofs.Sizes.{records-short, first-short, refusal-short}
 
 -- the front of an input, no more than k bytes

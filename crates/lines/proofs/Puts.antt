@@ -3,7 +3,6 @@
 use Prim.Native.Nat.{ℕ, suc, _+_, _-_, _≤_, _<_}
 use mathlib.Core.Path.{_≡_, refl, sym, ap, _∙_}
 use mathlib.Core.List.{List, [], _∷_, _++_, append-assoc, append-nil}
-use native.Mathlib.Numerals.{add-one}
 use native.Mathlib.Omega.{arith}
 use lib.ListN.{length, take, drop, set, length-append}
 use lib.Seq.{drop-cons, set-at}
@@ -12,7 +11,7 @@ use Rattle.octets.specs.Octets.{over}
 use Rattle.octets.proofs.Lists.{rest, lent, copied, over-none, over-length, over-more}
 use Rattle.lines.specs.Text.{Put}
 
-pub nothing-put : (out : List ℕ) → Put 0 [] out out
+nothing-put : (out : List ℕ) → Put 0 [] out out
 nothing-put out = record { size-is = refl; out-is = sym (over-none out) }
 
 pub copy-put : {n : ℕ} {back : List ℕ} (text out : List ℕ) → n ≡ length text → back ≡ take (length text) text ++ drop (length text) out
@@ -34,7 +33,7 @@ put-byte {n} {a} {before} {mid} v p h =
     }
 
 -- a piece more, in the part that is left
-pub put-more : {n k : ℕ} {a b before mid back : List ℕ} → Put n a before mid → Put k b (take (length mid - n) (drop n mid)) back
+put-more : {n k : ℕ} {a b before mid back : List ℕ} → Put n a before mid → Put k b (take (length mid - n) (drop n mid)) back
     → n ≤ length mid → Put (n + k) (a ++ b) before (putMid n (length mid - n) mid back)
 put-more {n} {k} {a} {b} {before} {mid} {back} p q h =
     record {

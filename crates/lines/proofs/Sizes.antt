@@ -1,8 +1,7 @@
--- How long a line is at most, by how many digits each of its numbers has; so a message whose records fit has a text of 65,600 bytes.
+-- How long a line is at most, by how many digits each of its numbers has; so a record's line takes no more than 64 bytes.
 -- Assumes nothing.
-use Prim.Native.Nat.{ℕ, suc, _+_, _*_, _^_, _≤_, _<_}
-use mathlib.Core.Path.{_≡_}
-use mathlib.Core.List.{List, [], _∷_, _++_}
+use Prim.Native.Nat.{ℕ, _+_, _*_, _^_, _≤_, _<_}
+use mathlib.Core.List.{List, [], _∷_}
 use native.Mathlib.Omega.{arith}
 use lib.ListN.{length, length-append}
 use Rattle.octets.proofs.Layouts.{fit-at}

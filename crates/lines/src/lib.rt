@@ -117,7 +117,7 @@ fn least(a: usize, b: usize) -> usize
     if a < b { a } else { b }
 }
 
-/// Puts the text of what the input's first bytes are at the front of `out`, and answers its size.
+/// Puts the dump of `input` at the front of `out`, and answers its size.
 pub fn dump(input: &[u8], out: &mut [u8; SIZE]) -> usize
     ensures text { λ _. ⌜ now (out .exit) ≡ over (dumped (now (input .entry))) (now (out .entry)) ⌝ }
     ensures size { λ r. ⌜ r ≡ length (dumped (now (input .entry))) ⌝ }

@@ -8,7 +8,7 @@ use mathlib.Core.List.{List, [], _∷_, _++_}
 use native.Mathlib.Omega.{arith}
 use lib.ListN.{length, drop}
 use Rattle.octets.specs.Octets.{Bytes}
-use Rattle.octets.specs.Run.{item, after, Tree, group, node, tree, tiles}
+use Rattle.octets.specs.Run.{item, after, Tree, node, tree, tiles}
 use Rattle.octets.proofs.Layouts.{value-back, fit-at}
 use Rattle.octets.proofs.Runs.{Parts, tree-none, tree-step, by-run}
 use Rattle.refusal.specs.Answer.{accepted}

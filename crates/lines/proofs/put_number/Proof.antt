@@ -1,9 +1,8 @@
 -- `put_number` meets its contract: the kit's digits are the definition's, and the byte is put after as many as there are.
 -- Assumes nothing.
-use Prim.Native.Nat.{_≤_}
-use mathlib.Core.Path.{_≡_, sym, ap, _∙_}
+use mathlib.Core.Path.{_≡_, sym, _∙_}
 use native.Mathlib.Omega.{arith}
-use lib.ListN.{length, take, length-take}
+use lib.ListN.{take, length-take}
 use denote.Ref.{now}
 use borrow.Author.Needs.{needs}
 use Rattle.rfc6733.specs.Dump.{decimal}
