@@ -22,8 +22,8 @@ use Rattle.rfc6733.specs.Decoder.{Counts, Message, runCounts, messageRecords, m
 use Rattle.rfc6733.specs.Dump.{recordLines, firstLine, line, linesText, dump, dumpText, dumped}
 use Rattle.rfc6733.proofs.Accepted.{when-accepted}
 use Rattle.record.proofs.Layouts.{record-length, laid-length}
-use Rattle.table.specs.Tables.{AllFit}
-use Rattle.table.proofs.Whole.{AllValued, record-back, Whole, sawp-whole}
+use Rattle.round_trip.specs.Tables.{AllFit}
+use Rattle.round_trip.proofs.Whole.{AllValued, record-back, Whole, sawp-whole}
 use Rattle.lines.specs.Text.{recordsIn, recordsText, messageText, refusalText, Put}
 use Rattle.lines.proofs.Sizes.{records-short, first-short, refusal-short}
 

@@ -9,8 +9,8 @@ use Rattle.record.specs.Record.{Record, recordLayout}
 use Rattle.rfc6733.specs.Decoder.{Counts}
 use Rattle.record.specs.Table.{bare}
 use Rattle.rfc6733.specs.Dump.{recordLine, recordLines, firstLine, decimal, line, linesText, refusedWord}
-use Rattle.table.specs.Tables.{Fits, AllFit}
-use Rattle.table.proofs.Whole.{Valued, AllValued}
+use Rattle.round_trip.specs.Tables.{Fits, AllFit}
+use Rattle.round_trip.proofs.Whole.{Valued, AllValued}
 use Rattle.lines.specs.Text.{refusalText}
 use Rattle.lines.proofs.Decimals.{decimal-short, decimal-most}
 

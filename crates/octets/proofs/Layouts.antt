@@ -7,7 +7,7 @@ use native.Mathlib.Nat.{mod-eq-of-lt}
 use native.Mathlib.Omega.{arith}
 use lib.ListN.{length, getD, take, drop}
 use lib.Seq.{take-add, drop-drop}
-use Rattle.octets.specs.Octets.{be, octets, Field, field, pack, widths, Bytes, Layout, fields, unpack, fieldsOf, valueAt, low, Fit}
+use Rattle.octets.specs.Octets.{octets, Field, pack, widths, Bytes, Layout, fields, unpack, fieldsOf, valueAt, low, Fit}
 use Rattle.octets.proofs.Numbers.{be-front, be-behind, be-small, read-written, written-read, length-octets}
 
 -- numbers behind some bytes

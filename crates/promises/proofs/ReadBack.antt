@@ -1,6 +1,6 @@
 -- What `writer::write` wrote, `diameter::parse` accepts, with the same codes, flags, vendors, data and padding at the top level as the
 -- table's records of depth 1 (docs/FORMAT.md, 8.4). Between
--- the contracts stands the reading back of the definition (table/proofs/ReadBack).
+-- the contracts stands the reading back of the definition (round_trip/proofs/ReadBack).
 -- Assumes nothing.
 use Prim.Native.Nat.{ℕ, _≤_}
 use mathlib.Core.Path.{_≡_, sym, ap, _∙_}
@@ -23,9 +23,9 @@ use Rattle.record.specs.Forest.{forest}
 use Rattle.record.specs.Table.{tableOf}
 use Rattle.rfc6733.specs.Writer.{tableBytes, output}
 use Rattle.refusal.proofs.Answers.{accepts, passes-append}
-use Rattle.table.specs.Tops.{tops, topRecords, roots, ofDepth}
-use Rattle.table.proofs.Written.{written-writable}
-use Rattle.table.proofs.ReadBack.{read-back}
+use Rattle.round_trip.specs.Tops.{tops, topRecords, roots, ofDepth}
+use Rattle.round_trip.proofs.Written.{written-writable}
+use Rattle.round_trip.proofs.ReadBack.{read-back}
 use Rattle.attribute.specs.declared.Reading.{Reading}
 use Rattle.attribute.specs.Attributes.{dictionary}
 use Rattle.diameter.specs.declared.Message.{Message}

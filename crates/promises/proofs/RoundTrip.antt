@@ -1,6 +1,6 @@
 -- Demand 2, the second half, of the two functions themselves: what `diameter::parse` accepted, in either reading, `writer::write` gives
 -- back byte for byte, from the header's fields, the records that the store holds and the message. Between the contracts stands the
--- round trip of the definition (table/proofs/RoundTrip).
+-- round trip of the definition (round_trip/proofs/RoundTrip).
 -- Assumes nothing.
 use Prim.Native.Nat.{ℕ, _*_, _≤_}
 use mathlib.Core.Path.{_≡_, sym, ap, _∙_}
@@ -20,9 +20,9 @@ use Rattle.record.specs.Store.{stored}
 use Rattle.rfc6733.specs.Writer.{tableBytes, output}
 use Rattle.rfc6733.proofs.Accepted.{when-accepted}
 use Rattle.record.proofs.Layouts.{laid-length}
-use Rattle.table.specs.Trip.{fieldsOf, Lawful}
-use Rattle.table.proofs.LeafKinds.{sawp-lawful, rfc-lawful}
-use Rattle.table.proofs.RoundTrip.{round-trip}
+use Rattle.round_trip.specs.Trip.{fieldsOf, Lawful}
+use Rattle.round_trip.proofs.LeafKinds.{sawp-lawful, rfc-lawful}
+use Rattle.round_trip.proofs.RoundTrip.{round-trip}
 use Rattle.attribute.specs.declared.Reading.{Reading}
 use Rattle.attribute.specs.declared.Reading.the-variants.{Sawp, Rfc}
 use Rattle.attribute.specs.Attributes.{dictionary}

@@ -1,17 +1,17 @@
 -- What each way of decoding answers, and what the store holds afterwards (docs/FORMAT.md, 7).
 -- Assumes nothing: these are definitions.
-use Prim.Native.Nat.{ℕ, _-_, _/_}
+use Prim.Native.Nat.{ℕ, _-_}
 use mathlib.Core.Bool.{Bool, not, _&&_}
 use mathlib.Core.List.{List, [], _∷_, _++_}
-use lib.ListN.{length, take, drop, replicate}
+use lib.ListN.{length, take, drop}
 use lib.Dec.{leb, ltb}
 use Rattle.octets.specs.Run.{Tree, tree, item, tiles, tried, deepest}
-use Rattle.refusal.specs.Answer.{Answer, accepted, refused, Refusal, refuse, answer, notTiled, tooDeep, noRecords, badDepth}
+use Rattle.refusal.specs.Answer.{Answer, Refusal, refuse, answer, notTiled, tooDeep, noRecords, badDepth}
 use Rattle.flags.specs.Flags.{join}
 use Rattle.rfc6733.specs.Header.{Header, headerSize, messageLength, headerOf, headerErrors, headerRefusals}
 use Rattle.rfc6733.specs.Avp.{avpSize, avpRefusals, mostDepth}
 use Rattle.rfc6733.specs.Dictionary.{Dictionary}
-use Rattle.record.specs.Record.{Record, recordSize, laid}
+use Rattle.record.specs.Record.{Record}
 use Rattle.rfc6733.specs.Records.{avps, errors, records}
 
 -- what an acceptance returns beside a header: error flags, number of records, headers tried, consumed length

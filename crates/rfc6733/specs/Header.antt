@@ -5,7 +5,7 @@ use mathlib.Core.Bool.{not}
 use mathlib.Core.List.{List, [], _∷_}
 use lib.ListN.{length, getD}
 use lib.Dec.{ltb, eqb}
-use Rattle.octets.specs.Octets.{be, Layout, total, valueAt}
+use Rattle.octets.specs.Octets.{Layout, total, valueAt}
 use Rattle.flags.specs.Flags.{nonZeroReserved, flag}
 use Rattle.refusal.specs.Answer.{Refusal, refuse, incomplete, notVersion, badLength}
 

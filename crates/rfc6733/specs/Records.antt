@@ -3,9 +3,8 @@
 use Prim.Native.Nat.{ℕ, _+_}
 use mathlib.Core.Bool.{Bool, false, cond, not}
 use mathlib.Core.List.{List, [], _∷_, _++_}
-use lib.ListN.{length, getD}
+use lib.ListN.{length}
 use lib.Dec.{eqb}
-use Rattle.octets.specs.Octets.{Field, pack, Layout, total, fieldsOf, valueAt}
 use Rattle.octets.specs.Run.{Format, Tree, done, broken, plain, group, tree, tiles}
 use Rattle.flags.specs.Flags.{dataValue, nonZeroReserved, nonZeroPadding, flag, join}
 use Rattle.rfc6733.specs.Avp as avp

@@ -1,6 +1,6 @@
 -- What the writer answers, and what the output holds afterwards (docs/FORMAT.md, 8).
 -- Assumes nothing: these are definitions.
-use Prim.Native.Nat.{ℕ, zero, suc, _+_, _-_, _/_, _%_, _^_}
+use Prim.Native.Nat.{ℕ, suc, _+_, _-_, _/_, _%_, _^_}
 use mathlib.Core.Bool.{Bool, true, cond, not, _&&_, _||_}
 use mathlib.Core.List.{List, [], _∷_, _++_}
 use lib.ListN.{length, take, drop}
@@ -11,7 +11,7 @@ use Rattle.flags.specs.Flags.{bit}
 use Rattle.rfc6733.specs.Avp as avp
 use Rattle.rfc6733.specs.Header.{Header, headerLayout}
 use Rattle.record.specs.Kinds.{grouped, time}
-use Rattle.record.specs.Record.{Record, recordSize, recordAt}
+use Rattle.record.specs.Record.{Record, recordSize}
 use Rattle.record.specs.Forest.{Forest, none, node, forest}
 use Rattle.record.specs.Table.{tableOf}
 

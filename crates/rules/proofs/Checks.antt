@@ -15,8 +15,8 @@ use Rattle.record.specs.Kinds.{time}
 use Rattle.record.specs.Record.{Record, recordSize}
 use Rattle.record.specs.Table.{entryAt, tableOf}
 use Rattle.rfc6733.specs.Writer.{isGroup, headOf, statedData, keeps, keepers, allowedAfter}
-use Rattle.table.proofs.Rules.{keeps-good}
-use Rattle.table.proofs.Tables.{table-none, table-some}
+use Rattle.round_trip.proofs.Rules.{keeps-good}
+use Rattle.round_trip.proofs.Tables.{table-none, table-some}
 use Rattle.rules.specs.Rules.{keepsLeaf}
 
 only : (b : Bool) → b && true ≡ b

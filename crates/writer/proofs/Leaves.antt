@@ -12,8 +12,8 @@ use Rattle.octets.proofs.Lists.{rest, lent, copied, over-more}
 use Rattle.rfc6733.specs.Avp.{padding}
 use Rattle.record.specs.Record.{Record}
 use Rattle.rfc6733.specs.Writer.{headOf, statedData, avpBytes, headFields, padBytes}
-use Rattle.table.specs.Rules.{Leaf}
-use Rattle.table.proofs.Lengths.{head-low, head-length, avp-length}
+use Rattle.round_trip.specs.Rules.{Leaf}
+use Rattle.round_trip.proofs.Lengths.{head-low, head-length, avp-length}
 use Rattle.record.specs.declared.Record as code
 use Rattle.record.specs.Stored.{recordAs}
 use Rattle.writer.specs.Emitting.{dataIn, LeafRoom, Put}

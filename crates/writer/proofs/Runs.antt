@@ -14,11 +14,11 @@ use Rattle.record.specs.Record.{Record, recordSize}
 use Rattle.record.specs.Forest.{Forest, none, node}
 use Rattle.record.specs.Table.{entryAt, tableOf}
 use Rattle.rfc6733.specs.Writer.{isGroup, headOf, avpBytes, forestBytes, most24, headFields, padBytes, bodyOf}
-use Rattle.table.specs.Forests.{count}
-use Rattle.table.specs.Rules.{Unpadded, Leaf, Valid}
-use Rattle.table.specs.Tables.{run, one}
-use Rattle.table.proofs.Lengths.{head-length}
-use Rattle.table.proofs.Turns.{Turn}
+use Rattle.round_trip.specs.Forests.{count}
+use Rattle.round_trip.specs.Rules.{Unpadded, Leaf, Valid}
+use Rattle.round_trip.specs.Tables.{run, one}
+use Rattle.round_trip.proofs.Lengths.{head-length}
+use Rattle.round_trip.proofs.Turns.{Turn}
 use Rattle.writer.specs.declared.emit.Taken.{Taken}
 use Rattle.writer.specs.Emitting.{dataIn, Put, Ready, Done}
 use Rattle.writer.proofs.Leaves.{leaf-sizes}

@@ -13,9 +13,9 @@ use Rattle.record.specs.Record.{Record, recordSize}
 use Rattle.record.specs.Forest.{Forest, none}
 use Rattle.record.specs.Table.{entryAt, tableOf}
 use Rattle.rfc6733.specs.Writer.{isGroup, headOf, statedData, most24}
-use Rattle.table.specs.Forests.{count, size}
-use Rattle.table.specs.Rules.{Valid}
-use Rattle.table.specs.Tables.{run, one}
+use Rattle.round_trip.specs.Forests.{count, size}
+use Rattle.round_trip.specs.Rules.{Valid}
+use Rattle.round_trip.specs.Tables.{run, one}
 use Rattle.writer.specs.declared.size.Measured.the-variants.{Over, Size}
 use Rattle.writer.specs.Sizing.{Orderly, sizedOf}
 use Rattle.writer.proofs.Steps.{Front, front, Step, step}

@@ -11,10 +11,10 @@ use Rattle.record.specs.Record.{Record, recordSize}
 use Rattle.record.specs.Forest.{none, node}
 use Rattle.record.specs.Table.{entryAt, tableOf}
 use Rattle.rfc6733.specs.Writer.{isGroup}
-use Rattle.table.specs.Forests.{count}
-use Rattle.table.specs.Rules.{Good, Valid}
-use Rattle.table.specs.Tables.{run, one}
-use Rattle.table.proofs.Turns.{Turn, turn}
+use Rattle.round_trip.specs.Forests.{count}
+use Rattle.round_trip.specs.Rules.{Good, Valid}
+use Rattle.round_trip.specs.Tables.{run, one}
+use Rattle.round_trip.proofs.Turns.{Turn, turn}
 
 -- ---- the record at the front, with its members
 

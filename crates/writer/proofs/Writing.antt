@@ -16,14 +16,14 @@ use Rattle.record.specs.Record.{recordSize}
 use Rattle.record.specs.Forest.{Forest, none, node, leading, forest}
 use Rattle.rfc6733.specs.Writer.{Fields, keepers, forestBytes, messageBytes, tableBytes, most24, written, headerFields}
 use Rattle.record.specs.Table.{tableOf}
-use Rattle.table.specs.Forests.{size}
-use Rattle.table.specs.Rules.{Valid, Kept}
-use Rattle.table.specs.Tables.{run}
-use Rattle.table.proofs.Keepers.{keepers-valid, keepers-most}
-use Rattle.table.proofs.Kept.{valid-kept}
-use Rattle.table.proofs.Lengths.{long, total-size}
-use Rattle.table.proofs.Tables.{table-length}
-use Rattle.table.proofs.Written.{writable-written}
+use Rattle.round_trip.specs.Forests.{size}
+use Rattle.round_trip.specs.Rules.{Valid, Kept}
+use Rattle.round_trip.specs.Tables.{run}
+use Rattle.round_trip.proofs.Keepers.{keepers-valid, keepers-most}
+use Rattle.round_trip.proofs.Kept.{valid-kept}
+use Rattle.round_trip.proofs.Lengths.{long, total-size}
+use Rattle.round_trip.proofs.Tables.{table-length}
+use Rattle.round_trip.proofs.Written.{writable-written}
 use Rattle.writer.specs.declared.emit.Taken.{Taken}
 use Rattle.writer.specs.Emitting.{Done}
 

@@ -9,8 +9,8 @@ use Rattle.record.specs.Record.{Record}
 use Rattle.record.specs.Forest.{Forest}
 use Rattle.record.specs.Table.{tableOf}
 use Rattle.rfc6733.specs.Writer.{statedData, forestBytes, most24}
-use Rattle.table.specs.Forests.{count}
-use Rattle.table.specs.Rules.{Leaf, Valid}
+use Rattle.round_trip.specs.Forests.{count}
+use Rattle.round_trip.specs.Rules.{Leaf, Valid}
 use Rattle.writer.specs.declared.emit.Taken.{Taken}
 
 -- ---- a record that is no group

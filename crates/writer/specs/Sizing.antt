@@ -7,8 +7,8 @@ use lib.Dec.{ltb}
 use Rattle.record.specs.Forest.{Forest}
 use Rattle.record.specs.Table.{tableOf}
 use Rattle.rfc6733.specs.Writer.{most24}
-use Rattle.table.specs.Forests.{count, size}
-use Rattle.table.specs.Rules.{Valid}
+use Rattle.round_trip.specs.Forests.{count, size}
+use Rattle.round_trip.specs.Rules.{Valid}
 use Rattle.writer.specs.declared.size.Measured.{Measured}
 use Rattle.writer.specs.declared.size.Measured.the-variants.{Over, Size}
 

@@ -11,7 +11,7 @@ ghost use Rattle.octets.specs.Octets.{octets, pack, over};
 ghost use Rattle.record.specs.Record.{recordSize};
 ghost use Rattle.record.specs.Table.{entryAt};
 ghost use Rattle.rfc6733.specs.Writer.{headOf, avpBytes, headFields, padBytes};
-ghost use Rattle.table.specs.Tables.{run, one};
+ghost use Rattle.round_trip.specs.Tables.{run, one};
 ghost use Rattle.record.specs.Stored.{recordAs};
 ghost use Rattle.writer.specs.Emitting.{dataIn, LeafRoom, Put, Ready, Done};
 

@@ -7,7 +7,7 @@ ghost use Prim.Native.Nat.{_≤_};
 ghost use lib.ListN.{length};
 ghost use Rattle.record.specs.Record.{recordSize};
 ghost use Rattle.record.specs.Table.{entryAt};
-ghost use Rattle.table.specs.Tables.{run, one};
+ghost use Rattle.round_trip.specs.Tables.{run, one};
 ghost use Rattle.record.specs.Stored.{recordAs};
 ghost use Rattle.writer.specs.Sizing.{Orderly, sizedOf};
 

@@ -13,7 +13,7 @@ use Rattle.octets.proofs.Lists.{rest}
 use Rattle.record.specs.Record.{recordSize}
 use Rattle.record.specs.Table.{entryAt, tableOf}
 use Rattle.rfc6733.specs.Writer.{keeps, keepers}
-use Rattle.table.proofs.Rules.{keeps-good}
+use Rattle.round_trip.proofs.Rules.{keeps-good}
 use Rattle.record.specs.Stored.{recordAs}
 use Rattle.rules.proofs.Checks.{stepped, not-stepped, stops, one-more, none-left}
 use Rattle.rules.proofs.keepers.Statement.{statement}

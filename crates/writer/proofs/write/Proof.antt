@@ -12,8 +12,8 @@ use Rattle.octets.proofs.Lists.{rest}
 use Rattle.rfc6733.specs.Writer as definition
 use Rattle.record.specs.Table.{tableOf}
 use Rattle.rfc6733.specs.Writer.{output}
-use Rattle.table.specs.Rules.{Valid}
-use Rattle.table.specs.Tables.{run}
+use Rattle.round_trip.specs.Rules.{Valid}
+use Rattle.round_trip.specs.Tables.{run}
 use Rattle.writer.specs.Answers.{fieldsAs, answerOf}
 use Rattle.writer.specs.Emitting.{Done}
 use Rattle.writer.proofs.Sizes.{Known, was-over, was-size}

@@ -6,7 +6,7 @@ use native.Mathlib.Omega.{arith}
 use lib.ListN.{take, length-take}
 use denote.Ref.{now}
 use borrow.Author.Needs.{needs}
-use Rattle.table.proofs.Lengths.{pad-length}
+use Rattle.round_trip.proofs.Lengths.{pad-length}
 use Rattle.record.specs.Stored.{recordAs}
 use Rattle.octets.proofs.Lists.{copied}
 use Rattle.writer.proofs.emit.put_padding.Statement.{statement}

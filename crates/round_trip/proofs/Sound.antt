@@ -9,11 +9,11 @@ use native.Mathlib.Omega.{arith}
 use Rattle.record.specs.Record.{Record}
 use Rattle.record.specs.Forest.{Forest, none, node, forest, flat}
 use Rattle.rfc6733.specs.Writer.{isGroup, keeps, allowedAfter}
-use Rattle.table.specs.Rules.{Valid, Kept}
-use Rattle.table.proofs.Rules.{keeps-good, good-at}
-use Rattle.table.proofs.Keepers.{valid-up}
-use Rattle.table.proofs.Shape.{Level, forest-flat}
-use Rattle.table.proofs.Turns.{after-group, after-leaf}
+use Rattle.round_trip.specs.Rules.{Valid, Kept}
+use Rattle.round_trip.proofs.Rules.{keeps-good, good-at}
+use Rattle.round_trip.proofs.Keepers.{valid-up}
+use Rattle.round_trip.proofs.Shape.{Level, forest-flat}
+use Rattle.round_trip.proofs.Turns.{after-group, after-leaf}
 
 pub data Sound (n : ℕ) : ℕ → Forest → Type 0 where
   no-more : {d : ℕ} → Sound n d none

@@ -10,10 +10,10 @@ use borrow.Author.Tests.{leb-true, leb-false, lt-leb, eq-eqb, ne-eqb}
 use Rattle.record.specs.Record.{Record}
 use Rattle.record.specs.Forest.{following, forest}
 use Rattle.rfc6733.specs.Writer.{allowedAfter}
-use Rattle.table.specs.Rules.{Good, Valid}
-use Rattle.table.specs.Tops.{roots, ofDepth}
-use Rattle.table.proofs.Rules.{keeps-good}
-use Rattle.table.proofs.Tails.{following-following}
+use Rattle.round_trip.specs.Rules.{Good, Valid}
+use Rattle.round_trip.specs.Tops.{roots, ofDepth}
+use Rattle.round_trip.proofs.Rules.{keeps-good}
+use Rattle.round_trip.proofs.Tails.{following-following}
 
 roots-following : (allowed n : ℕ) (rs : List Record) → Valid allowed n rs → roots (following 2 (forest rs)) ≡ ofDepth 1 rs
 roots-following allowed n [] v = refl

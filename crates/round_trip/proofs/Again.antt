@@ -22,11 +22,11 @@ use Rattle.record.specs.Table.{bare}
 use Rattle.rfc6733.specs.Writer.{isGroup, headOf, statedData, avpBytes, headFields, padBytes}
 use Rattle.rfc6733.proofs.Complete.{head, sizes, complete-whole}
 use Rattle.rfc6733.proofs.Items.{payload-length}
-use Rattle.table.specs.Rules.{Good}
-use Rattle.table.specs.Tables.{Fits}
-use Rattle.table.proofs.Lengths.{no-padding}
-use Rattle.table.proofs.Packed.{bytes-drop}
-use Rattle.table.proofs.Pads.{pads-written, pads-unused}
+use Rattle.round_trip.specs.Rules.{Good}
+use Rattle.round_trip.specs.Tables.{Fits}
+use Rattle.round_trip.proofs.Lengths.{no-padding}
+use Rattle.round_trip.proofs.Packed.{bytes-drop}
+use Rattle.round_trip.proofs.Pads.{pads-written, pads-unused}
 
 -- ---- the parts of an AVP
 

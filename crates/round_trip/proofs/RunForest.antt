@@ -12,7 +12,7 @@ use Rattle.record.specs.Record.{Record}
 use Rattle.rfc6733.specs.Records.{valueOf, groupValue, recordOf, records}
 use Rattle.record.specs.Forest.{Forest, none, flat}
 use Rattle.record.specs.Table.{bare}
-use Rattle.table.specs.Trip.{forestOf}
+use Rattle.round_trip.specs.Trip.{forestOf}
 
 cond-map : (f : Record → Record) (b : Bool) (rs : List Record) (t : Forest) → map f rs ≡ flat t → map f (cond b rs []) ≡ flat (cond b t none)
 cond-map f true rs t e = e

@@ -13,7 +13,7 @@ use Rattle.record.specs.Kinds.{time}
 use Rattle.record.specs.Record.{Record}
 use Rattle.rfc6733.specs.Writer.{isGroup, headOf, statedData, keeps}
 use Rattle.refusal.proofs.Answers.{and-true, true-and}
-use Rattle.table.specs.Rules.{Good}
+use Rattle.round_trip.specs.Rules.{Good}
 
 -- ---- tests that are asked in one case only
 

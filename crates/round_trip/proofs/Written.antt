@@ -15,9 +15,9 @@ use Rattle.record.specs.Record.{recordSize}
 use Rattle.rfc6733.specs.Writer.{Fields, keepers, tableBytes, most24, written}
 use Rattle.record.specs.Table.{tableOf}
 use Rattle.refusal.proofs.Answers.{and-true, kept-lt, passed}
-use Rattle.table.specs.Rules.{Valid}
-use Rattle.table.proofs.Keepers.{keepers-valid, valid-keepers, keepers-most}
-use Rattle.table.proofs.Tables.{table-length}
+use Rattle.round_trip.specs.Rules.{Valid}
+use Rattle.round_trip.proofs.Keepers.{keepers-valid, valid-keepers, keepers-most}
+use Rattle.round_trip.proofs.Tables.{table-length}
 
 pub record Writable (f : Fields) (table pool : List ℕ) (room : ℕ) : Type 0 where
   pub code-fits : f .code ≤ most24

@@ -18,15 +18,15 @@ use Rattle.record.specs.Forest.{Forest, none, flat}
 use Rattle.rfc6733.specs.Writer.{statedData, forestBytes, bodyOf}
 use Rattle.rfc6733.proofs.Complete.{head, sizes, complete-whole}
 use Rattle.rfc6733.proofs.Items.{payload-length}
-use Rattle.table.specs.Forests.{size}
-use Rattle.table.specs.Tables.{AllFit}
-use Rattle.table.specs.Trip.{Ungrouped}
-use Rattle.table.proofs.Rules.{good-keeps}
-use Rattle.table.proofs.Lengths.{long}
-use Rattle.table.proofs.Laid.{both-fit}
-use Rattle.table.proofs.Again.{own, own-group, own-depth, own-place, own-data, avp-again, own-good, own-fits}
-use Rattle.table.proofs.Sound.{Sound, sound-kept}
-use Rattle.table.proofs.Places.{Holds, holds-part, holds-fits, holds-data}
+use Rattle.round_trip.specs.Forests.{size}
+use Rattle.round_trip.specs.Tables.{AllFit}
+use Rattle.round_trip.specs.Trip.{Ungrouped}
+use Rattle.round_trip.proofs.Rules.{good-keeps}
+use Rattle.round_trip.proofs.Lengths.{long}
+use Rattle.round_trip.proofs.Laid.{both-fit}
+use Rattle.round_trip.proofs.Again.{own, own-group, own-depth, own-place, own-data, avp-again, own-good, own-fits}
+use Rattle.round_trip.proofs.Sound.{Sound, sound-kept}
+use Rattle.round_trip.proofs.Places.{Holds, holds-part, holds-fits, holds-data}
 
 -- the forest f, whose trees stand at a depth, keeps the rules, fits a table, and writes s
 pub record Trip (pool : List ℕ) (depth : ℕ) (s : List ℕ) (f : Forest) : Type 0 where

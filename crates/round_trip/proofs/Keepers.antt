@@ -9,8 +9,8 @@ use native.Mathlib.Omega.{arith}
 use lib.ListN.{length}
 use Rattle.record.specs.Record.{Record}
 use Rattle.rfc6733.specs.Writer.{keeps, allowedAfter, keepers}
-use Rattle.table.specs.Rules.{Valid}
-use Rattle.table.proofs.Rules.{keeps-good, keeps-at}
+use Rattle.round_trip.specs.Rules.{Valid}
+use Rattle.round_trip.proofs.Rules.{keeps-good, keeps-at}
 
 pub keepers-valid : (allowed n : ℕ) (rs : List Record) → keepers allowed n rs ≡ length rs → Valid allowed n rs
 keepers-valid allowed n [] e = tt

@@ -17,9 +17,9 @@ use Rattle.record.specs.Forest.{Forest, none, node, forest}
 use Rattle.rfc6733.specs.Writer.{Fields, isGroup, headOf, statedData, avpBytes, forestBytes, messageBytes, tableBytes, headerFields, headFields, padBytes, bodyOf}
 use Rattle.record.specs.Table.{tableOf}
 use Rattle.rfc6733.proofs.Complete.{head}
-use Rattle.table.specs.Forests.{size}
-use Rattle.table.specs.Rules.{Good, Valid, Kept}
-use Rattle.table.proofs.Kept.{valid-kept}
+use Rattle.round_trip.specs.Forests.{size}
+use Rattle.round_trip.specs.Rules.{Good, Valid, Kept}
+use Rattle.round_trip.proofs.Kept.{valid-kept}
 
 -- ---- an AVP
 

@@ -14,7 +14,7 @@ use Rattle.rfc6733.specs.Header.{headerLayout, messageLength, headerOf}
 use Rattle.rfc6733.specs.Decoder.{messageBody}
 use Rattle.rfc6733.specs.Writer.{headerWith, headerFields, messageBytes}
 use Rattle.rfc6733.proofs.Accepted.{Headed}
-use Rattle.table.specs.Trip.{fieldsOf}
+use Rattle.round_trip.specs.Trip.{fieldsOf}
 
 header-again : (s : List ℕ) (n : ℕ) → Bytes s → 20 ≤ length s → be 1 s 0 ≡ 1 → n ≡ messageLength s → pack (headerFields (fieldsOf (headerOf s)) n) ≡ take 20 s
 unfolding fieldsOf headerOf

@@ -25,10 +25,10 @@ use Rattle.record.specs.Table.{bare}
 use Rattle.flags.proofs.Joins.{join-small}
 use Rattle.rfc6733.proofs.RunErrors.{Small, own-small, value-small, errors-small, bare-small}
 use Rattle.rfc6733.proofs.Items.{sound}
-use Rattle.table.specs.Tables.{Fits, AllFit}
-use Rattle.table.proofs.Packed.{bytes-take, bytes-drop, bytes-item, bytes-payload, bytes-after}
-use Rattle.table.proofs.LeafKinds.{sawp-lawful}
-use Rattle.table.proofs.RoundTrip.{records-fit}
+use Rattle.round_trip.specs.Tables.{Fits, AllFit}
+use Rattle.round_trip.proofs.Packed.{bytes-take, bytes-drop, bytes-item, bytes-payload, bytes-after}
+use Rattle.round_trip.proofs.LeafKinds.{sawp-lawful}
+use Rattle.round_trip.proofs.RoundTrip.{records-fit}
 
 -- what the writer does not take of a record fits as well
 pub record Valued (r : Record) : Type 0 where

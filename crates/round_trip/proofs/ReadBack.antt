@@ -18,15 +18,15 @@ use Rattle.record.specs.Forest.{forest, flat}
 use Rattle.rfc6733.specs.Writer.{Fields, forestBytes, tableBytes, written}
 use Rattle.record.specs.Table.{tableOf}
 use Rattle.rfc6733.proofs.Messages.{message-read}
-use Rattle.table.specs.Tables.{AllFit}
-use Rattle.table.specs.Tops.{tops, topRecords, roots, ofDepth}
-use Rattle.table.proofs.Shape.{flat-forest}
-use Rattle.table.proofs.Kept.{valid-kept}
-use Rattle.table.proofs.Lengths.{message-length}
-use Rattle.table.proofs.Laid.{table-fits}
-use Rattle.table.proofs.ForestBack.{back}
-use Rattle.table.proofs.Roots.{roots-table}
-use Rattle.table.proofs.Written.{written-writable}
+use Rattle.round_trip.specs.Tables.{AllFit}
+use Rattle.round_trip.specs.Tops.{tops, topRecords, roots, ofDepth}
+use Rattle.round_trip.proofs.Shape.{flat-forest}
+use Rattle.round_trip.proofs.Kept.{valid-kept}
+use Rattle.round_trip.proofs.Lengths.{message-length}
+use Rattle.round_trip.proofs.Laid.{table-fits}
+use Rattle.round_trip.proofs.ForestBack.{back}
+use Rattle.round_trip.proofs.Roots.{roots-table}
+use Rattle.round_trip.proofs.Written.{written-writable}
 
 pub record ReadBack (D : Dictionary) (f : Fields) (table pool : List ℕ) (n : ℕ) : Type 0 where
   pub header : passes (headerRefusals (tableBytes f table pool)) ≡ true

@@ -11,9 +11,9 @@ use borrow.Author.Tests.{leb-true, leb-false, le-leb}
 use Rattle.record.specs.Record.{Record}
 use Rattle.record.specs.Forest.{Forest, none, node, leading, following, forest}
 use Rattle.rfc6733.specs.Writer.{allowedAfter}
-use Rattle.table.specs.Forests.{count}
-use Rattle.table.specs.Rules.{Valid}
-use Rattle.table.proofs.Rules.{keeps-at}
+use Rattle.round_trip.specs.Forests.{count}
+use Rattle.round_trip.specs.Rules.{Valid}
+use Rattle.round_trip.proofs.Rules.{keeps-at}
 
 -- ---- the parts of a forest at two depths
 

@@ -6,7 +6,7 @@ use mathlib.Core.Path.{_≡_, refl, ap, ap₂, _∙_}
 use mathlib.Core.List.{List, [], _∷_, _++_, map, append-assoc}
 use native.Mathlib.Nat.{mod-eq-of-lt}
 use native.Mathlib.Omega.{arith}
-use lib.ListN.{length, take, drop, length-append}
+use lib.ListN.{length, drop, length-append}
 use lib.Seq.{drop-at, getD-drop}
 use Rattle.octets.specs.Octets.{be, Field, field, pack, widths, Bytes, unpack}
 use Rattle.octets.proofs.Numbers.{read-field}
@@ -14,8 +14,8 @@ use Rattle.octets.proofs.Layouts.{unpack-low, low-fit, unpack-fits, fit-at}
 use Rattle.record.specs.Record.{Record, recordSize, recordLayout, recordBytes, recordAt, laid}
 use Rattle.record.specs.Table.{bare, entryAt, recordsIn, tableOf}
 use Rattle.record.proofs.Layouts.{record-length}
-use Rattle.table.specs.Tables.{Fits, AllFit}
-use Rattle.table.proofs.Tables.{table-some}
+use Rattle.round_trip.specs.Tables.{Fits, AllFit}
+use Rattle.round_trip.proofs.Tables.{table-some}
 
 -- ---- laid out and read
 

@@ -6,7 +6,7 @@ use Rattle.octets.specs.Octets.{Fit}
 use Rattle.record.specs.Record.{Record, recordLayout}
 use Rattle.record.specs.Forest.{Forest, leading, forest}
 use Rattle.record.specs.Table.{bare, tableOf}
-use Rattle.table.specs.Forests.{first}
+use Rattle.round_trip.specs.Forests.{first}
 
 -- the numbers that the writer takes of a record fit their widths
 abbrev pub Fits : Record → Type 0

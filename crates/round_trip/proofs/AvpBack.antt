@@ -17,12 +17,12 @@ use Rattle.record.specs.Record.{Record, recordLayout}
 use Rattle.record.specs.Table.{bare}
 use Rattle.rfc6733.specs.Writer.{isGroup, headOf, avpBytes, headFields, padBytes}
 use Rattle.rfc6733.proofs.Complete.{sizes, whole-complete}
-use Rattle.table.specs.Rules.{Good}
-use Rattle.table.specs.Tables.{Fits}
-use Rattle.table.specs.Tops.{topOf, topRecord}
-use Rattle.table.proofs.Laid.{field-back}
-use Rattle.table.proofs.Lengths.{head-low, head-length, avp-length, Padded}
-use Rattle.table.proofs.Pads.{pads-read}
+use Rattle.round_trip.specs.Rules.{Good}
+use Rattle.round_trip.specs.Tables.{Fits}
+use Rattle.round_trip.specs.Tops.{topOf, topRecord}
+use Rattle.round_trip.proofs.Laid.{field-back}
+use Rattle.round_trip.proofs.Lengths.{head-low, head-length, avp-length, Padded}
+use Rattle.round_trip.proofs.Pads.{pads-read}
 
 -- bytes of three parts, taken apart
 apart : (h n : ℕ) (a b c : List ℕ) → length a ≡ h → length b ≡ n

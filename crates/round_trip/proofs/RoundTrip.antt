@@ -18,24 +18,23 @@ use Rattle.record.specs.Record.{Record, laid}
 use Rattle.rfc6733.specs.Records.{avps}
 use Rattle.rfc6733.specs.Decoder.{Message, runRecords, messageBody, messageRecords, decoded}
 use Rattle.record.specs.Forest.{Forest, forest, flat}
-use Rattle.record.specs.Table.{tableOf}
+use Rattle.record.specs.Table.{tableOf, bare}
 use Rattle.rfc6733.specs.Writer.{forestBytes, messageBytes, tableBytes, most24, written}
 use Rattle.rfc6733.proofs.Accepted.{when-accepted}
 use Rattle.record.proofs.Layouts.{laid-length}
-use Rattle.record.specs.Table.{bare}
-use Rattle.table.specs.Tables.{AllFit}
-use Rattle.table.specs.Trip.{fieldsOf, Lawful, forestOf}
-use Rattle.table.proofs.Packed.{bytes-take, bytes-drop}
-use Rattle.table.proofs.Headers.{message-again}
-use Rattle.table.proofs.LeafKinds.{sawp-lawful, rfc-lawful}
-use Rattle.table.proofs.Tables.{table-none}
-use Rattle.table.proofs.Laid.{fit-bare, laid-read}
-use Rattle.table.proofs.Sound.{sound-valid, sound-read}
-use Rattle.table.proofs.Places.{holds-here}
-use Rattle.table.proofs.RunForest.{flat-records}
-use Rattle.table.proofs.AvpTrip.{Trip}
-use Rattle.table.proofs.RunTrip.{trips}
-use Rattle.table.proofs.Written.{writable-written}
+use Rattle.round_trip.specs.Tables.{AllFit}
+use Rattle.round_trip.specs.Trip.{fieldsOf, Lawful, forestOf}
+use Rattle.round_trip.proofs.Packed.{bytes-take, bytes-drop}
+use Rattle.round_trip.proofs.Headers.{message-again}
+use Rattle.round_trip.proofs.LeafKinds.{sawp-lawful, rfc-lawful}
+use Rattle.round_trip.proofs.Tables.{table-none}
+use Rattle.round_trip.proofs.Laid.{fit-bare, laid-read}
+use Rattle.round_trip.proofs.Sound.{sound-valid, sound-read}
+use Rattle.round_trip.proofs.Places.{holds-here}
+use Rattle.round_trip.proofs.RunForest.{flat-records}
+use Rattle.round_trip.proofs.AvpTrip.{Trip}
+use Rattle.round_trip.proofs.RunTrip.{trips}
+use Rattle.round_trip.proofs.Written.{writable-written}
 
 pub record WrittenAgain (D : Dictionary) (s : List ℕ) (room : ℕ) : Type 0 where
   pub accepts : written (fieldsOf (headerOf s)) (laid (messageRecords D s)) s room ≡ accepted (messageLength s)

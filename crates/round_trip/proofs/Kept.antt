@@ -8,8 +8,8 @@ use lib.Dec.{leb}
 use Rattle.record.specs.Record.{Record}
 use Rattle.record.specs.Forest.{Forest, none, node, leading, following, forest}
 use Rattle.rfc6733.specs.Writer.{allowedAfter}
-use Rattle.table.specs.Rules.{Valid, Kept}
-use Rattle.table.proofs.Rules.{keeps-good, good-at}
+use Rattle.round_trip.specs.Rules.{Valid, Kept}
+use Rattle.round_trip.proofs.Rules.{keeps-good, good-at}
 
 pub kept-leading : (n d : ℕ) (f : Forest) → Kept n f → Kept n (leading d f)
 kept-leading n d none k = tt

@@ -16,12 +16,12 @@ use Rattle.rfc6733.specs.Records.{valueOf, groupValue, avps, errors}
 use Rattle.rfc6733.proofs.Alone.{item-exact}
 use Rattle.rfc6733.proofs.Complete.{sizes, complete-whole}
 use Rattle.rfc6733.proofs.Items.{sound, payload-length}
-use Rattle.table.specs.Trip.{Lawful, forestOf}
-use Rattle.table.proofs.Packed.{bytes-item, bytes-payload, bytes-after}
-use Rattle.table.proofs.LeafKinds.{value-leaf}
-use Rattle.table.proofs.Sound.{Sound}
-use Rattle.table.proofs.Places.{Holds, holds-front, holds-behind}
-use Rattle.table.proofs.AvpTrip.{Trip, payload-held, trip-leaf, trip-group}
+use Rattle.round_trip.specs.Trip.{Lawful, forestOf}
+use Rattle.round_trip.proofs.Packed.{bytes-item, bytes-payload, bytes-after}
+use Rattle.round_trip.proofs.LeafKinds.{value-leaf}
+use Rattle.round_trip.proofs.Sound.{Sound}
+use Rattle.round_trip.proofs.Places.{Holds, holds-front, holds-behind}
+use Rattle.round_trip.proofs.AvpTrip.{Trip, payload-held, trip-leaf, trip-group}
 
 module _ (pool : List ℕ) (D : Dictionary) (lawful : Lawful D) where
   -- the run s, whose tree is t, wherever it stands

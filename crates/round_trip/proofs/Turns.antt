@@ -12,13 +12,13 @@ use Rattle.record.specs.Record.{Record, recordSize}
 use Rattle.record.specs.Forest.{none, node, leading, forest}
 use Rattle.record.specs.Table.{entryAt, tableOf}
 use Rattle.rfc6733.specs.Writer.{isGroup, allowedAfter}
-use Rattle.table.specs.Forests.{count}
-use Rattle.table.specs.Rules.{Good, Valid}
-use Rattle.table.specs.Tables.{run, one}
-use Rattle.table.proofs.Rules.{keeps-good}
-use Rattle.table.proofs.Shape.{flat-forest, count-flat}
-use Rattle.table.proofs.Tails.{leading-fewer, forest-tail, valid-tail}
-use Rattle.table.proofs.Tables.{table-none, table-some, table-drop, table-length}
+use Rattle.round_trip.specs.Forests.{count}
+use Rattle.round_trip.specs.Rules.{Good, Valid}
+use Rattle.round_trip.specs.Tables.{run, one}
+use Rattle.round_trip.proofs.Rules.{keeps-good}
+use Rattle.round_trip.proofs.Shape.{flat-forest, count-flat}
+use Rattle.round_trip.proofs.Tails.{leading-fewer, forest-tail, valid-tail}
+use Rattle.round_trip.proofs.Tables.{table-none, table-some, table-drop, table-length}
 
 -- ---- where a run ends: the table ends, or goes on above it
 

@@ -19,13 +19,13 @@ use Rattle.record.specs.Forest.{Forest, none, flat}
 use Rattle.rfc6733.specs.Writer.{avpBytes, forestBytes, bodyOf}
 use Rattle.rfc6733.proofs.Complete.{complete-whole, whole-complete}
 use Rattle.rfc6733.proofs.Items.{sound}
-use Rattle.table.specs.Forests.{size}
-use Rattle.table.specs.Rules.{Kept}
-use Rattle.table.specs.Tables.{AllFit}
-use Rattle.table.specs.Tops.{Top, topOf, tops, topRecords}
-use Rattle.table.proofs.Laid.{fit-after}
-use Rattle.table.proofs.Lengths.{head-low, avp-length, body, long}
-use Rattle.table.proofs.AvpBack.{exact-back, top-back}
+use Rattle.round_trip.specs.Forests.{size}
+use Rattle.round_trip.specs.Rules.{Kept}
+use Rattle.round_trip.specs.Tables.{AllFit}
+use Rattle.round_trip.specs.Tops.{Top, topOf, tops, topRecords}
+use Rattle.round_trip.proofs.Laid.{fit-after}
+use Rattle.round_trip.proofs.Lengths.{head-low, avp-length, body, long}
+use Rattle.round_trip.proofs.AvpBack.{exact-back, top-back}
 
 -- ---- an AVP before other bytes
 

@@ -15,7 +15,7 @@ use Rattle.rfc6733.specs.Dictionary.{Dictionary, Row, kindIn, baseAvps, sawpAvp
 use Rattle.rfc6733.specs.Records.{avpKind, valueOf}
 use Rattle.refusal.proofs.Answers.{and-true}
 use Rattle.rfc6733.proofs.KindsRead.{Kind, kind-read, bare-kind, family-kind}
-use Rattle.table.specs.Trip.{Ungrouped, Lawful}
+use Rattle.round_trip.specs.Trip.{Ungrouped, Lawful}
 
 -- ---- values
 

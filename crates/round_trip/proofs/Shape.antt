@@ -11,7 +11,7 @@ use lib.Dec.{leb}
 use borrow.Author.Tests.{le-leb, lt-leb}
 use Rattle.record.specs.Record.{Record}
 use Rattle.record.specs.Forest.{Forest, none, node, leading, following, forest, flat}
-use Rattle.table.specs.Forests.{count}
+use Rattle.round_trip.specs.Forests.{count}
 
 -- ---- a table, laid out again
 
