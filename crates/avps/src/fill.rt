@@ -2,7 +2,7 @@
 use attribute::Reading;
 use avp::AVP;
 use flags::ErrorFlags;
-use front::Next;
+use front::First;
 use record::Record;
 use record::kinds::GROUPED;
 use value::Value;
@@ -76,7 +76,7 @@ pub(super) fn read_run(
     let mut n: usize = 0;
     let mut errors: u8 = 0;
     while at < s.len() {
-        let Next::Whole(a) = front::complete(&s[at..]) else {
+        let First::Whole(a) = front::first_avp(&s[at..]) else {
             return Ran { records: n, errors };
         };
         let next = at + a.size;

@@ -2,7 +2,7 @@
 // This crate looks at headers and never at values, and writes nothing. The depth limit bounds how deep it calls itself.
 use attribute::Reading;
 use avp::AVP;
-use front::Next;
+use front::First;
 use refusal::Refusal;
 ghost use mathlib.Core.Path.{_≡_};
 ghost use Prim.Native.Nat.{_<_};
@@ -76,7 +76,7 @@ fn count_level(reading: Reading, s: &[u8], left: usize) -> Level
         if left == 0 {
             return Level::TooDeep;
         }
-        let Next::Whole(a) = front::complete(&s[at..]) else {
+        let First::Whole(a) = front::first_avp(&s[at..]) else {
             return Level::Counts {
                 tiles: false,
                 records,

@@ -3,7 +3,7 @@
 use attribute::Reading;
 use avp::AVP;
 use avps::Filled;
-use front::Front;
+use front::ParsedAvp;
 use header::Header;
 use header::Parsed;
 use refusal::Refusal;
@@ -101,8 +101,8 @@ pub fn parse_avp(reading: Reading, limit: usize, input: &[u8], store: &mut [u8])
     if !count::allowed(limit) {
         return Filled::Refused(Refusal::BadDepth);
     }
-    match front::head(input) {
-        Front::Whole(a) => parse_one(reading, limit, a.size, input, store),
-        Front::Refused(why) => Filled::Refused(why),
+    match front::parse(input) {
+        ParsedAvp::Accepted(a) => parse_one(reading, limit, a.size, input, store),
+        ParsedAvp::Refused(why) => Filled::Refused(why),
     }
 }

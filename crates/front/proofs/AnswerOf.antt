@@ -5,18 +5,18 @@ use mathlib.Core.Path.{_≡_, refl, sym, ap, _∙_}
 use Rattle.refusal.specs.Answer.{Answer, accepted, refused}
 use Rattle.refusal.proofs.Back.{refusal-back, is-back}
 use Rattle.avp.specs.declared.AVP.{AVP}
-use Rattle.front.specs.declared.Front.{Front}
-use Rattle.front.specs.declared.Front.the-variants.{Whole, Refused}
+use Rattle.front.specs.declared.ParsedAvp.{ParsedAvp}
+use Rattle.front.specs.declared.ParsedAvp.the-variants.{Accepted, Refused}
 use Rattle.front.specs.Front.{answerOf}
 
-abbrev outcome-back : Answer AVP → Front
-outcome-back (accepted a) = Whole a
+abbrev outcome-back : Answer AVP → ParsedAvp
+outcome-back (accepted a) = Accepted a
 outcome-back (refused number amount) = Refused (refusal-back number amount)
 
-outcome-is-back : (r : Front) → outcome-back (answerOf r) ≡ r
+outcome-is-back : (r : ParsedAvp) → outcome-back (answerOf r) ≡ r
 unfolding answerOf
-outcome-is-back (Whole a) = refl
+outcome-is-back (Accepted a) = refl
 outcome-is-back (Refused r) = ap Refused (is-back r)
 
-pub answer-of-injective : (r r′ : Front) → answerOf r ≡ answerOf r′ → r ≡ r′
+pub answer-of-injective : (r r′ : ParsedAvp) → answerOf r ≡ answerOf r′ → r ≡ r′
 answer-of-injective r r′ e = sym (outcome-is-back r) ∙ ap outcome-back e ∙ outcome-is-back r′

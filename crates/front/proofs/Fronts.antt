@@ -1,4 +1,4 @@
--- What an answer of `AVP::complete` says of the bytes that it was asked of, for loops over a run: `Whole` is answered exactly where an AVP
+-- What an answer of `first_avp` says of the bytes that it was asked of, for loops over a run: `Whole` is answered exactly where an AVP
 -- is complete, and then what is left after it is the run from its size on.
 -- Assumes nothing.
 use Prim.Native.Nat.{ℕ, _+_, _-_, _≤_, _<_}
@@ -16,32 +16,32 @@ use Rattle.rfc6733.proofs.Complete as rfc
 use Rattle.rfc6733.proofs.Complete.{head, sizes, complete-whole}
 use Rattle.rfc6733.proofs.Items.{avpsBy}
 use Rattle.avp.specs.declared.AVP.{AVP}
-use Rattle.front.specs.declared.Front.the-variants as front
-use Rattle.front.specs.declared.Next.{Next}
-use Rattle.front.specs.declared.Next.the-variants.{Whole, Broken}
-use Rattle.front.specs.Front.{avpOf, completeOf, answerOf, frontOf}
+use Rattle.front.specs.declared.ParsedAvp.the-variants as front
+use Rattle.front.specs.declared.First.{First}
+use Rattle.front.specs.declared.First.the-variants.{Whole, Broken}
+use Rattle.front.specs.Front.{avpOf, firstOf, answerOf, parsedOf}
 
-abbrev Was : Next → List ℕ → Type 0
+abbrev Was : First → List ℕ → Type 0
 Was (Whole a) s = (complete s ≡ true) × (a ≡ avpOf s)
 Was Broken s = complete s ≡ false
 
-was : (s : List ℕ) → Was (completeOf s) s
-unfolding completeOf
+was : (s : List ℕ) → Was (firstOf s) s
+unfolding firstOf
 was s = by (complete s) refl
   where
     by : (b : Bool) → complete s ≡ b → Was (cond b (Whole (avpOf s)) Broken) s
     by true t = (t, refl)
     by false t = t
 
-pub was-whole : (s : List ℕ) (a : AVP) → Whole a ≡ completeOf s → (complete s ≡ true) × (a ≡ avpOf s)
-was-whole s a e = subst (λ (r : Next). Was r s) (sym e) (was s)
+pub was-whole : (s : List ℕ) (a : AVP) → Whole a ≡ firstOf s → (complete s ≡ true) × (a ≡ avpOf s)
+was-whole s a e = subst (λ (r : First). Was r s) (sym e) (was s)
 
-pub was-broken : (s : List ℕ) → Broken ≡ completeOf s → complete s ≡ false
-was-broken s e = subst (λ (r : Next). Was r s) (sym e) (was s)
+pub was-broken : (s : List ℕ) → Broken ≡ firstOf s → complete s ≡ false
+was-broken s e = subst (λ (r : First). Was r s) (sym e) (was s)
 
 -- an AVP that `AVP::head` accepts is complete too
-pub was-accepted : (s : List ℕ) (a : AVP) → answerOf (front.Whole a) ≡ frontOf s → (complete s ≡ true) × (a ≡ avpOf s)
-unfolding answerOf frontOf complete
+pub was-accepted : (s : List ℕ) (a : AVP) → answerOf (front.Accepted a) ≡ parsedOf s → (complete s ≡ true) × (a ≡ avpOf s)
+unfolding answerOf parsedOf complete
 was-accepted s a e = let p = passed (avpRefusals s) (avpOf s) a (sym e) in (p .0, sym (p .1))
 
 -- ---- the fields of the AVP at the front
@@ -64,7 +64,7 @@ here s a e =
       size-is = ap (λ (x : AVP). x .size) e;
     }
 
--- ---- a turn of a loop over `&s[at..]`, once `AVP::complete` answered `Whole(a)` there
+-- ---- a turn of a loop over `&s[at..]`, once `first_avp` answered `Whole(a)` there
 
 pub record Turn (s : List ℕ) (at : ℕ) (a : AVP) : Type 0 where
   pub complete-here : complete (drop at s) ≡ true
@@ -79,10 +79,10 @@ pub record Turn (s : List ℕ) (at : ℕ) (a : AVP) : Type 0 where
   pub next : drop (at + a .size) s ≡ drop (a .size) (drop at s)
   pub own-length : length (take (a .size) (drop at s)) ≡ a .size
 
-pub turn : (s : List ℕ) (at : ℕ) (a : AVP) → at < length s → Whole a ≡ completeOf (take (length s - at) (drop at s)) → Turn s at a
+pub turn : (s : List ℕ) (at : ℕ) (a : AVP) → at < length s → Whole a ≡ firstOf (take (length s - at) (drop at s)) → Turn s at a
 turn s at a h e =
     let left = drop at s in
-    let p = was-whole left a (e ∙ ap completeOf (rest s at (omega arith))) in
+    let p = was-whole left a (e ∙ ap firstOf (rest s at (omega arith))) in
     let f = here left a (p .1) in
     let w = complete-whole left (p .0) in
     let hd = head (flags left) in
@@ -113,5 +113,5 @@ module _ (nested : List ℕ → Bool) (s : List ℕ) (at : ℕ) (a : AVP) (t : T
   unfolding item
   own-is = ap (λ (k : ℕ). take k (drop at s)) (t .fields .size-is)
 
-pub stuck : (s : List ℕ) (at : ℕ) → at < length s → Broken ≡ completeOf (take (length s - at) (drop at s)) → complete (drop at s) ≡ false
-stuck s at h e = was-broken (drop at s) (e ∙ ap completeOf (rest s at (omega arith)))
+pub stuck : (s : List ℕ) (at : ℕ) → at < length s → Broken ≡ firstOf (take (length s - at) (drop at s)) → complete (drop at s) ≡ false
+stuck s at h e = was-broken (drop at s) (e ∙ ap firstOf (rest s at (omega arith)))

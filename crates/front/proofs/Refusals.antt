@@ -1,4 +1,4 @@
--- `completeOf` and `frontOf` by cases: which facts lead to which answer, in the order of the refusals. Each refusal is the tests that
+-- `firstOf` and `parsedOf` by cases: which facts lead to which answer, in the order of the refusals. Each refusal is the tests that
 -- fail, in their order, and then the one that holds. A complete AVP passes them all.
 -- Assumes nothing.
 use Prim.Native.Nat.{ℕ, _-_, _≤_, _<_}
@@ -17,9 +17,9 @@ use Rattle.rfc6733.proofs.Complete.{complete-whole, whole-complete}
 use Rattle.refusal.specs.declared.Refusal.the-variants.{Incomplete, BadLength}
 use Rattle.refusal.specs.Refusals.{refusedAs}
 use Rattle.avp.specs.declared.AVP.{AVP}
-use Rattle.front.specs.declared.Next.the-variants as found
-use Rattle.front.specs.declared.Front.the-variants.{Whole}
-use Rattle.front.specs.Front.{avpOf, completeOf, answerOf, frontOf}
+use Rattle.front.specs.declared.First.the-variants as found
+use Rattle.front.specs.declared.ParsedAvp.the-variants.{Accepted}
+use Rattle.front.specs.Front.{avpOf, firstOf, answerOf, parsedOf}
 
 module _ (s : List ℕ) where
   pub not-complete : (rfc.Whole s → ⊥) → complete s ≡ false
@@ -38,31 +38,31 @@ module _ (s : List ℕ) where
       by false t =
           absurd (false-true (sym e ∙ whole-complete s (record { eight = eight; long = long; room = ltb-false _ _ t })))
 
-  pub broken : complete s ≡ false → found.Broken ≡ completeOf s
-  unfolding completeOf
+  pub broken : complete s ≡ false → found.Broken ≡ firstOf s
+  unfolding firstOf
   broken e = rw e
 
-  pub whole : rfc.Whole s → (a : AVP) → a ≡ avpOf s → found.Whole a ≡ completeOf s
-  unfolding completeOf
+  pub whole : rfc.Whole s → (a : AVP) → a ≡ avpOf s → found.Whole a ≡ firstOf s
+  unfolding firstOf
   whole w a e = rw (whole-complete s w, e)
 
-  pub accepted-whole : complete s ≡ true → (a : AVP) → a ≡ avpOf s → answerOf (Whole a) ≡ frontOf s
-  unfolding answerOf frontOf complete
+  pub accepted-whole : complete s ≡ true → (a : AVP) → a ≡ avpOf s → answerOf (Accepted a) ≡ parsedOf s
+  unfolding answerOf parsedOf complete
   accepted-whole t a e = rw e (sym (accepts (avpRefusals s) (avpOf s) t))
 
-  pub under-four : length s < 4 → refusedAs (Incomplete (4 - length s)) ≡ frontOf s
-  unfolding frontOf avpRefusals
+  pub under-four : length s < 4 → refusedAs (Incomplete (4 - length s)) ≡ parsedOf s
+  unfolding parsedOf avpRefusals
   under-four few = simp (lt-ltb _ _ few)
 
-  pub at-four : length s ≡ 4 → refusedAs (Incomplete 1) ≡ frontOf s
-  unfolding frontOf avpRefusals
+  pub at-four : length s ≡ 4 → refusedAs (Incomplete 1) ≡ parsedOf s
+  unfolding parsedOf avpRefusals
   at-four e =
       let four : 4 ≤ length s = omega arith in
       let few : length s < 5 = omega arith in
       simp (le-ltb _ _ four, lt-ltb _ _ few)
 
-  pub under-eight : 5 ≤ length s → length s < 8 → refusedAs (Incomplete (8 - length s)) ≡ frontOf s
-  unfolding frontOf avpRefusals
+  pub under-eight : 5 ≤ length s → length s < 8 → refusedAs (Incomplete (8 - length s)) ≡ parsedOf s
+  unfolding parsedOf avpRefusals
   under-eight five few = let four : 4 ≤ length s = omega arith in simp (le-ltb _ _ four, le-ltb _ _ five, lt-ltb _ _ few)
 
   -- with the first 8 bytes
@@ -73,27 +73,27 @@ module _ (s : List ℕ) where
     five : 5 ≤ length s
     five = omega arith
 
-    pub length-under-eight : avpLength s < 8 → refusedAs BadLength ≡ frontOf s
-    unfolding frontOf avpRefusals
+    pub length-under-eight : avpLength s < 8 → refusedAs BadLength ≡ parsedOf s
+    unfolding parsedOf avpRefusals
     length-under-eight short = simp (le-ltb _ _ four, le-ltb _ _ five, le-ltb _ _ eight, lt-ltb _ _ short)
 
     -- and a length that counts them
     module _ (counts : 8 ≤ avpLength s) where
-      pub cut-off : length s < avpLength s → (n : ℕ) → n ≡ avpLength s - length s → refusedAs (Incomplete n) ≡ frontOf s
-      unfolding frontOf avpRefusals
+      pub cut-off : length s < avpLength s → (n : ℕ) → n ≡ avpLength s - length s → refusedAs (Incomplete n) ≡ parsedOf s
+      unfolding parsedOf avpRefusals
       cut-off few n e = simp (le-ltb _ _ four, le-ltb _ _ five, le-ltb _ _ eight, le-ltb _ _ counts, lt-ltb _ _ few, e)
 
       -- and whose bytes are at hand
       module _ (there : avpLength s ≤ length s) where
-        pub length-under-header : avpLength s < headSize (flags s) → refusedAs BadLength ≡ frontOf s
-        unfolding frontOf avpRefusals
+        pub length-under-header : avpLength s < headSize (flags s) → refusedAs BadLength ≡ parsedOf s
+        unfolding parsedOf avpRefusals
         length-under-header short =
             simp
             (le-ltb _ _ four, le-ltb _ _ five, le-ltb _ _ eight, le-ltb _ _ counts, le-ltb _ _ there, lt-ltb _ _ short)
 
         pub padding-absent : headSize (flags s) ≤ avpLength s → length s < avpSize s → (n : ℕ) → n ≡ avpSize s - length s
-            → refusedAs (Incomplete n) ≡ frontOf s
-        unfolding frontOf avpRefusals
+            → refusedAs (Incomplete n) ≡ parsedOf s
+        unfolding parsedOf avpRefusals
         padding-absent long few n e =
             simp (
               le-ltb _ _ four,

@@ -7,10 +7,10 @@ use Rattle.refusal.specs.Answer.{Answer, accepted, answer}
 use Rattle.rfc6733.specs.Avp as rfc
 use Rattle.refusal.specs.Refusals.{refusedAs}
 use Rattle.avp.specs.declared.AVP.{AVP}
-use Rattle.front.specs.declared.Next.{Next}
-use Rattle.front.specs.declared.Next.the-variants as next
-use Rattle.front.specs.declared.Front.{Front}
-use Rattle.front.specs.declared.Front.the-variants.{Whole, Refused}
+use Rattle.front.specs.declared.First.{First}
+use Rattle.front.specs.declared.First.the-variants.{Whole, Broken}
+use Rattle.front.specs.declared.ParsedAvp.{ParsedAvp}
+use Rattle.front.specs.declared.ParsedAvp.the-variants.{Accepted, Refused}
 
 -- the fields of the AVP at the front
 unfoldable pub avpOf : List ℕ → AVP
@@ -24,13 +24,13 @@ avpOf s =
     }
 
 -- the AVP at the front, if it is complete
-unfoldable pub completeOf : List ℕ → Next
-completeOf s = cond (rfc.complete s) (next.Whole (avpOf s)) next.Broken
+unfoldable pub firstOf : List ℕ → First
+firstOf s = cond (rfc.complete s) (Whole (avpOf s)) Broken
 
-unfoldable pub answerOf : Front → Answer AVP
-answerOf (Whole a) = accepted a
+unfoldable pub answerOf : ParsedAvp → Answer AVP
+answerOf (Accepted a) = accepted a
 answerOf (Refused r) = refusedAs r
 
 -- the AVP alone, without what its data are
-unfoldable pub frontOf : List ℕ → Answer AVP
-frontOf s = answer (rfc.avpRefusals s) (avpOf s)
+unfoldable pub parsedOf : List ℕ → Answer AVP
+parsedOf s = answer (rfc.avpRefusals s) (avpOf s)

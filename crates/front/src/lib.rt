@@ -10,17 +10,17 @@ ghost use lib.ListN.{length};
 ghost use Rattle.rfc6733.specs.Avp.{flags, headSize, vendor, complete};
 ghost use Rattle.rfc6733.specs.Records.{tiling};
 ghost use Rattle.refusal.specs.Refusals.{refusedAs};
-ghost use Rattle.front.specs.Front.{completeOf, answerOf, frontOf};
+ghost use Rattle.front.specs.Front.{firstOf, answerOf, parsedOf};
 
 /// What is at the front of a slice, as a run asks it: a complete AVP, or none.
-pub enum Next {
+pub enum First {
     Whole(AVP),
     Broken,
 }
 
 /// What is at the front of a slice: a complete AVP, or the refusal.
-pub enum Front {
-    Whole(AVP),
+pub enum ParsedAvp {
+    Accepted(AVP),
     Refused(Refusal),
 }
 
@@ -38,7 +38,7 @@ fn vendor_id(s: &[u8]) -> u32
 // The first refusal, in the order in which the fields are read: the code, the flags, the length, the vendor, the padding.
 fn refusal(s: &[u8]) -> Refusal
     requires { ⌜ complete (now s) ≡ false ⌝ }
-    ensures { λ r. ⌜ refusedAs r ≡ frontOf (now (s .entry)) ⌝ }
+    ensures { λ r. ⌜ refusedAs r ≡ parsedOf (now (s .entry)) ⌝ }
 {
     let available = s.len();
     if available < AVP::CODE_SIZE {
@@ -65,24 +65,24 @@ fn refusal(s: &[u8]) -> Refusal
 }
 
 /// The AVP at the front of `s`, if it is complete. Three tests tell.
-pub fn complete(s: &[u8]) -> Next
-    ensures { λ r. ⌜ r ≡ completeOf (now (s .entry)) ⌝ }
+pub fn first_avp(s: &[u8]) -> First
+    ensures { λ r. ⌜ r ≡ firstOf (now (s .entry)) ⌝ }
 {
     let available = s.len();
     if available < AVP::PRE_LENGTH_SIZE {
-        return Next::Broken;
+        return First::Broken;
     }
     let flags = s[4];
     let length = octets::be_u24(s[5], s[6], s[7]) as usize;
     let header_size = AVP::header_size_of(flags);
     if length < header_size {
-        return Next::Broken;
+        return First::Broken;
     }
     let size = length + AVP::padding(length - header_size);
     if available < size {
-        return Next::Broken;
+        return First::Broken;
     }
-    Next::Whole(AVP {
+    First::Whole(AVP {
         code: octets::be_u32(s[0], s[1], s[2], s[3]),
         flags,
         length,
@@ -92,12 +92,12 @@ pub fn complete(s: &[u8]) -> Next
 }
 
 /// The AVP at the front of `s`, or the first refusal.
-pub fn head(s: &[u8]) -> Front
-    ensures { λ r. ⌜ answerOf r ≡ frontOf (now (s .entry)) ⌝ }
+pub fn parse(s: &[u8]) -> ParsedAvp
+    ensures { λ r. ⌜ answerOf r ≡ parsedOf (now (s .entry)) ⌝ }
 {
-    match complete(s) {
-        Next::Whole(a) => Front::Whole(a),
-        Next::Broken => Front::Refused(refusal(s)),
+    match first_avp(s) {
+        First::Whole(a) => ParsedAvp::Accepted(a),
+        First::Broken => ParsedAvp::Refused(refusal(s)),
     }
 }
 
@@ -107,7 +107,7 @@ pub fn tiles(s: &[u8]) -> bool
 {
     let mut at: usize = 0;
     while at < s.len() {
-        let Next::Whole(a) = complete(&s[at..]) else {
+        let First::Whole(a) = first_avp(&s[at..]) else {
             return false;
         };
         at += a.size;

@@ -38,8 +38,8 @@ use Rattle.avp.proofs.AVP.get_reserved.Reads as avp-get-reserved
 use Rattle.avp.proofs.AVP.header_size_of.Reads as header-size-of
 use Rattle.avp.proofs.AVP.header_size.Reads as header-size
 use Rattle.avp.proofs.AVP.padding.Reads as padding
-use Rattle.front.proofs.complete.Reads as complete
-use Rattle.front.proofs.head.Reads as head
+use Rattle.front.proofs.first_avp.Reads as complete
+use Rattle.front.proofs.parse.Reads as head
 use Rattle.front.proofs.tiles.Reads as tiles
 use Rattle.record.proofs.Record.put.Reads as record-put
 use Rattle.record.proofs.Record.get.Reads as record-get

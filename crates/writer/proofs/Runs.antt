@@ -22,7 +22,7 @@ use Rattle.round_trip.proofs.Turns.{Turn}
 use Rattle.writer.specs.declared.emit.Taken.{Taken}
 use Rattle.writer.specs.Emitting.{dataIn, Put, Ready, Done}
 use Rattle.writer.proofs.Leaves.{leaf-sizes}
-use Rattle.writer.proofs.Steps.{Front, front, Step, step}
+use Rattle.writer.proofs.Steps.{AtFront, at-front, Step, step}
 
 -- ---- a run, record by record
 
@@ -170,8 +170,8 @@ module _ (pool : List ℕ) (depth : ℕ) (s : List ℕ) (r : Record) (is : r ≡
   abbrev members : List ℕ
   members = forestBytes pool (run (depth + 1) (drop recordSize s))
 
-  this : Front depth (length pool) s r
-  this = front depth (length pool) s r is level some v
+  this : AtFront depth (length pool) s r
+  this = at-front depth (length pool) s r is level some v
 
   one-bytes : forestBytes pool (one s) ≡ avpBytes r (bodyOf pool r members)
   one-bytes = ap (forestBytes pool) (this .one-is) ∙ append-nil (avpBytes r (bodyOf pool r members))

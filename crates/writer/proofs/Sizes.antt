@@ -18,7 +18,7 @@ use Rattle.round_trip.specs.Rules.{Valid}
 use Rattle.round_trip.specs.Tables.{run, one}
 use Rattle.writer.specs.declared.size.Measured.the-variants.{Over, Size}
 use Rattle.writer.specs.Sizing.{Orderly, sizedOf}
-use Rattle.writer.proofs.Steps.{Front, front, Step, step}
+use Rattle.writer.proofs.Steps.{AtFront, at-front, Step, step}
 
 -- ---- facts and answers
 
@@ -134,8 +134,8 @@ module _ (depth : ℕ) (s : List ℕ) (r : Record) (left : ℕ) (is : r ≡ entr
   abbrev members : Forest
   members = run (depth + 1) (drop recordSize s)
 
-  this : Front depth (o .available) s r
-  this = front depth (o .available) s r is level some (o .valid)
+  this : AtFront depth (o .available) s r
+  this = at-front depth (o .available) s r is level some (o .valid)
 
   pub inside : isGroup r ≡ true → (fewer : ℕ) → fewer ≤ left → Inside depth s r fewer
   inside g fewer h =

@@ -18,7 +18,7 @@ use Rattle.round_trip.proofs.Turns.{Turn, turn}
 
 -- ---- the record at the front, with its members
 
-pub record Front (depth available : ℕ) (s : List ℕ) (r : Record) : Type 0 where
+pub record AtFront (depth available : ℕ) (s : List ℕ) (r : Record) : Type 0 where
   pub good : Good depth available r
   pub one-is : one s ≡ node r (run (depth + 1) (drop recordSize s)) none
   pub count-is : count (one s) ≡ 1 + count (run (depth + 1) (drop recordSize s))
@@ -26,9 +26,9 @@ pub record Front (depth available : ℕ) (s : List ℕ) (r : Record) : Type 0 wh
   pub valid-inside : isGroup r ≡ true → Valid (depth + 1) available (tableOf (drop recordSize s))
   pub none-inside : isGroup r ≡ false → run (depth + 1) (drop recordSize s) ≡ none
 
-pub front : (depth available : ℕ) (s : List ℕ) (r : Record) → r ≡ entryAt s → r .depth ≡ depth → recordSize ≤ length s
-    → Valid depth available (tableOf s) → Front depth available s r
-front depth available s r is level some v =
+pub at-front : (depth available : ℕ) (s : List ℕ) (r : Record) → r ≡ entryAt s → r .depth ≡ depth → recordSize ≤ length s
+    → Valid depth available (tableOf s) → AtFront depth available s r
+at-front depth available s r is level some v =
     let t = turn depth available s some v (rw (← is) (omega arith)) in
     record {
       good = rw is (t .good-here);

@@ -29,7 +29,7 @@ use Rattle.count.specs.Counts.{levelOf}
 use Rattle.count.proofs.Levels.{Known, was-deep, was-counts, within, Passed, none-passed, one-passed, then-deep, then-ends, one-plain, one-deep, one-group}
 use Rattle.count.proofs.Lent.{Own, own, Inside, inside}
 use Rattle.attribute.proofs.is_grouped.Reads as is-grouped-reads
-use Rattle.front.proofs.complete.Reads as complete-reads
+use Rattle.front.proofs.first_avp.Reads as complete-reads
 use Rattle.avp.proofs.AVP.header_size.Reads as header-size-reads
 use Rattle.count.proofs.count_avp.Reads as count-avp
 use Rattle.count.proofs.count_avp.Kinds as count-avp-kinds
@@ -182,11 +182,11 @@ module _ (t : ℕ) where
   none-there c =
       let l = c .before .before .before .before .before .before in
       tree-broken _ (sound _) _ (some-left (c .before .before .before .before .before))
-      (stuck (run l) (l .loop .at) (omega arith) (sym (c .enum-told .given .1) ∙ c .before .before .complete .ensures))
+      (stuck (run l) (l .loop .at) (omega arith) (sym (c .enum-told .given .1) ∙ c .before .before .first-avp .ensures))
 
   -- there is one; it is lent, and counted
   turned : (c : Found) → let l = loop c in Turn (run l) (l .loop .at) (c .before .before .a .given .0 .0)
-  turned c = let w = c .before .before in turn _ _ _ (omega arith) (sym (w .a .given .1) ∙ w .before .before .complete .ensures)
+  turned c = let w = c .before .before in turn _ _ _ (omega arith) (sym (w .a .given .1) ∙ w .before .before .first-avp .ensures)
 
   own-lent : (c : Found)
       → let l = loop c in

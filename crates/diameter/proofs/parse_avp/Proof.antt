@@ -19,18 +19,18 @@ use Rattle.front.proofs.Fronts.{was-accepted, here}
 use Rattle.diameter.proofs.parse_avp.Statement.{statement}
 use Rattle.diameter.proofs.parse_avp.Tie as tie
 
-abbrev start : tie.After-head → tie.Start
+abbrev start : tie.After-parse → tie.Start
 start c = c .before .before .before .before .before
 
 -- the limit is allowed
-within-limit : (c : tie.After-head) → allowed (start c .args .limit) ≡ true
+within-limit : (c : tie.After-parse) → allowed (start c .args .limit) ≡ true
 within-limit c = let e = c .before in sym (e .before .allowed .ensures) ∙ not-false _ (e .if1 .left)
 
 -- the refusal of what stands at the front
-refuses : (c : tie.After-head) (n a : ℕ) → front.answerOf (c .head .result) ≡ refused n a
+refuses : (c : tie.After-parse) (n a : ℕ) → front.answerOf (c .parse .result) ≡ refused n a
     → let b = start c in refused n a ≡ avpAlone (dictionary (b .args .reading)) (b .args .limit) (capacity (length (now (b .args .store)))) (now (b .args .input))
-unfolding front.frontOf
-refuses c n a e = front-refused _ _ _ _ (within-limit c) (front.avpOf (now (start c .args .input))) n a (sym (c .head .ensures) ∙ e)
+unfolding front.parsedOf
+refuses c n a e = front-refused _ _ _ _ (within-limit c) (front.avpOf (now (start c .args .input))) n a (sym (c .parse .ensures) ∙ e)
 
 returns : tie.Need-returns
 unfolding avps.answerOf stored
@@ -39,7 +39,7 @@ returns c = (alone-limit-bad _ _ _ _ (sym (c .before .allowed .ensures) ∙ not-
 parse-one-requires : tie.Need-parse-one-requires
 parse-one-requires c κs =
     let a = c .before .before in
-    let w = was-accepted _ _ (ap front.answerOf (sym (a .a .given .1)) ∙ a .before .before .head .ensures) in
+    let w = was-accepted _ _ (ap front.answerOf (sym (a .a .given .1)) ∙ a .before .before .parse .ensures) in
     (within-limit (a .before .before), record { whole = w .0; size-is = here _ _ (w .1) .size-is })
 
 returns-3 : tie.Need-returns-3

@@ -25,7 +25,7 @@ turned : (c : tie.After-struct-known Inv-loop μ-loop)
     → let b = c .before .before in
     let l = b .before .before .before .before .before in
     Turn (now (l .before .before .args .s)) (l .loop .at) (b .a .given .0 .0)
-turned c = let b = c .before .before in turn _ _ _ (omega arith) (sym (b .a .given .1) ∙ b .before .before .complete .ensures)
+turned c = let b = c .before .before in turn _ _ _ (omega arith) (sym (b .a .given .1) ∙ b .before .before .first-avp .ensures)
 
 -- ---- the needs
 
@@ -33,7 +33,7 @@ returns : tie.Need-returns Inv-loop μ-loop
 returns c =
     let l = c .before .before .before .before .before in
     let s = now (l .before .before .args .s) in
-    let none = stuck s (l .loop .at) (omega arith) (sym (c .enum-told .given .1) ∙ c .before .before .complete .ensures) in
+    let none = stuck s (l .loop .at) (omega arith) (sym (c .enum-told .given .1) ∙ c .before .before .first-avp .ensures) in
     sym (tiling-broken (drop (l .loop .at) s) (omega (arith, length-drop (l .loop .at) s)) none) ∙ l .loop .inv .1
 
 add-at : tie.Need-add-at Inv-loop μ-loop

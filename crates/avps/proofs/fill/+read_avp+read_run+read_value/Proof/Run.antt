@@ -15,7 +15,7 @@ use Rattle.front.proofs.Fronts.{Turn, turn, stuck}
 use Rattle.avps.specs.Fill.{depthAt}
 use Rattle.avps.proofs.OwnBytes.{OwnBytes, own-bytes}
 use Rattle.avps.proofs.Filling.{Filling, nothing-filled, never-stuck, all-filled, room-for-one, one-filled}
-use Rattle.front.proofs.complete.Reads as complete
+use Rattle.front.proofs.first_avp.Reads as complete
 use Rattle.flags.proofs.join.Reads as join-flags
 use Rattle.avps.proofs.fill.read_run.Reads as run-reads
 use Rattle.avps.proofs.fill.read_avp.Reads as avp-reads
@@ -45,7 +45,7 @@ module _ (t : ℕ) where
   -- the AVP at `at`
   run-turn : (c : run.After-struct-known (run-calls t) (run-at t) run-reads.Post Inv-loop μ-loop)
       → let l = run-loop c in Turn (now (run-start l .args .s)) (l .loop .at) (c .before .before .a .given .0 .0)
-  run-turn c = let w = c .before .before in turn _ _ _ (omega arith) (sym (w .a .given .1) ∙ w .before .before .complete .ensures)
+  run-turn c = let w = c .before .before in turn _ _ _ (omega arith) (sym (w .a .given .1) ∙ w .before .before .first-avp .ensures)
 
   -- its own bytes
   run-own : (c : run.After-struct-known (run-calls t) (run-at t) run-reads.Post Inv-loop μ-loop)
@@ -86,7 +86,7 @@ module _ (t : ℕ) where
   returns c =
       let l = c .before .before .before .before .before in
       let s = now (run-start l .args .s) in
-      let none = stuck s (l .loop .at) (omega arith) (sym (c .enum-told .given .1) ∙ c .before .before .complete .ensures) in
+      let none = stuck s (l .loop .at) (omega arith) (sym (c .enum-told .given .1) ∙ c .before .before .first-avp .ensures) in
       absurd (never-stuck s (l .loop .at) (l .loop .inv .1) (run-start l .pre .1 .0) (omega arith) none)
 
   pub add-next : run.Need-add-next (run-calls t) (run-at t) run-reads.Post Inv-loop μ-loop

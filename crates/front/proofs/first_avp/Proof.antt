@@ -10,8 +10,8 @@ use borrow.Author.Needs.{needs}
 use Rattle.rfc6733.proofs.Complete.{Whole}
 use Rattle.front.proofs.Fields.{Stated, stated, Padded, padded, header-there, fields-are}
 use Rattle.front.proofs.Refusals.{not-complete, broken, whole}
-use Rattle.front.proofs.complete.Statement.{statement}
-use Rattle.front.proofs.complete.Tie as tie
+use Rattle.front.proofs.first_avp.Statement.{statement}
+use Rattle.front.proofs.first_avp.Tie as tie
 
 abbrev input : tie.After-be-u24 → List ℕ
 input c = now (c .before .before .before .before .before .before .before .args .s)
@@ -58,8 +58,8 @@ returns-4 c =
     let p = padding-found (there .before) in
     whole _ (complete-there there) _ (fields-are _ _ (c .before .be-u32 .ensures) refl (st .length-is) (c .vendor-id .ensures) (p .size-is))
 
-pub complete-spec : {M : Type 1} → statement M
-complete-spec =
+pub first-avp-spec : {M : Type 1} → statement M
+first-avp-spec =
     tie.close
     (tie.spec
     returns
