@@ -41,6 +41,16 @@ abbrev pub all : List Bool → Bool
 all [] = true
 all (b ∷ bs) = b && all bs
 
+-- the rules of a record that is no group, where n bytes are there to point into
+unfoldable pub keepsLeaf : ℕ → Record → Bool
+keepsLeaf n r =
+    all
+    (leb (headOf r) (r .length)
+    ∷ leb (r .place + statedData r) n
+    ∷ eqb (r .padding) (avp.padding (statedData r))
+    ∷ eqb (r .pads % 256 ^ (3 - r .padding)) 0
+    ∷ [])
+
 -- A record keeps the rules where a depth is allowed at most, and n bytes are there to point into.
 unfoldable pub keeps : ℕ → ℕ → Record → Bool
 keeps allowed n r =
@@ -52,12 +62,7 @@ keeps allowed n r =
     ∷ (bit avp.vendorBit (r .flags) || eqb (r .vendor) 0)
     ∷ cond (isGroup r)
     (eqb (r .padding) 0 && eqb (r .pads) 0)
-    (all
-    (leb (headOf r) (r .length)
-    ∷ leb (r .place + statedData r) n
-    ∷ eqb (r .padding) (avp.padding (statedData r))
-    ∷ eqb (r .pads % 256 ^ (3 - r .padding)) 0
-    ∷ []))
+    (keepsLeaf n r)
     ∷ [])
 
 -- the depth that is allowed after it: one more only after a group
@@ -83,9 +88,13 @@ padBytes r = take (r .padding) (octets 3 (r .pads))
 unfoldable pub avpBytes : Record → List ℕ → List ℕ
 avpBytes r body = pack (headFields r (headOf r + length body)) ++ (body ++ padBytes r)
 
--- the data: the members' bytes of a group, and what the place of another points at
+-- the data of a record that is no group: what its place points at
+abbrev pub dataIn : List ℕ → Record → List ℕ
+dataIn pool r = take (statedData r) (drop (r .place) pool)
+
+-- the data: the members' bytes of a group, and those of another
 abbrev pub bodyOf : List ℕ → Record → List ℕ → List ℕ
-bodyOf pool r members = cond (isGroup r) members (take (statedData r) (drop (r .place) pool))
+bodyOf pool r members = cond (isGroup r) members (dataIn pool r)
 
 abbrev pub forestBytes : List ℕ → Forest → List ℕ
 forestBytes pool none = []

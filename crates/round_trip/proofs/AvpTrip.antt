@@ -15,7 +15,7 @@ use Rattle.rfc6733.specs.Value.{Value, value}
 use Rattle.record.specs.Kinds.{grouped, time}
 use Rattle.record.specs.Forest as table
 use Rattle.record.specs.Forest.{Forest, none, flat}
-use Rattle.rfc6733.specs.Writer.{statedData, forestBytes, bodyOf}
+use Rattle.rfc6733.specs.Writer.{statedData, forestBytes, bodyOf, dataIn}
 use Rattle.rfc6733.proofs.Complete.{head, sizes, complete-whole}
 use Rattle.rfc6733.proofs.Items.{payload-length}
 use Rattle.round_trip.specs.Forests.{size}
@@ -47,7 +47,7 @@ module _ (pool : List ℕ) (place depth : ℕ) (a : List ℕ) (exact : Exact a) 
   some = omega (arith, exact .size-is, sizes a, complete-whole a (exact .whole), head (flags a))
 
   -- the data that its record points at
-  pointed : (v : Value) → take (statedData (own place depth a v)) (drop (own place depth a v .place) pool) ≡ payload a
+  pointed : (v : Value) → dataIn pool (own place depth a v) ≡ payload a
   pointed v =
       ap₂ (λ (n p : ℕ). take n (drop p pool)) (own-data place depth a v) (own-place place depth a v)
       ∙ holds-data pool (place + headSize (flags a)) (dataSize a) (payload a) (payload-length a (complete-whole a (exact .whole)))
@@ -61,7 +61,7 @@ module _ (pool : List ℕ) (place depth : ℕ) (a : List ℕ) (exact : Exact a) 
     body-again = rw (own-group place depth a v) (by (eqb (v .kind) grouped) inside)
       where
         by : (b : Bool) → (b ≡ true → forestBytes pool members ≡ payload a)
-            → cond b (forestBytes pool members) (take (statedData (own place depth a v)) (drop (own place depth a v .place) pool)) ≡ payload a
+            → cond b (forestBytes pool members) (dataIn pool (own place depth a v)) ≡ payload a
         by true h = h refl
         by false h = pointed v
 

@@ -11,7 +11,7 @@ use Rattle.flags.specs.Flags.{bit}
 use Rattle.rfc6733.specs.Avp.{vendorBit, padding}
 use Rattle.record.specs.Kinds.{time}
 use Rattle.record.specs.Record.{Record}
-use Rattle.rfc6733.specs.Writer.{isGroup, headOf, statedData, keeps}
+use Rattle.rfc6733.specs.Writer.{isGroup, headOf, statedData, keeps, keepsLeaf}
 use Rattle.refusal.proofs.Answers.{and-true, true-and}
 use Rattle.round_trip.specs.Rules.{Good}
 
@@ -41,7 +41,7 @@ else-or false x f = f refl
 
 module _ (allowed n : ℕ) (r : Record) where
   pub keeps-good : keeps allowed n r ≡ true → Good allowed n r
-  unfolding keeps
+  unfolding keeps keepsLeaf
   keeps-good e =
       let some = and-true (leb 1 (r .depth)) _ e in
       let most = and-true (leb (r .depth) 64) _ (some .1) in
@@ -74,7 +74,7 @@ module _ (allowed n : ℕ) (r : Record) where
       }
 
   pub good-keeps : Good allowed n r → keeps allowed n r ≡ true
-  unfolding keeps
+  unfolding keeps keepsLeaf
   good-keeps g =
       true-and (le-leb 1 (r .depth) (g .some))
       (true-and (le-leb (r .depth) 64 (g .most))

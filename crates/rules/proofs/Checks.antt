@@ -14,10 +14,9 @@ use Rattle.rfc6733.specs.Avp.{vendorBit, padding, mostDepth}
 use Rattle.record.specs.Kinds.{time}
 use Rattle.record.specs.Record.{Record, recordSize}
 use Rattle.record.specs.Table.{entryAt, tableOf}
-use Rattle.rfc6733.specs.Writer.{isGroup, headOf, statedData, keeps, keepers, allowedAfter}
+use Rattle.rfc6733.specs.Writer.{isGroup, headOf, statedData, keeps, keepers, allowedAfter, keepsLeaf}
 use Rattle.round_trip.proofs.Rules.{keeps-good}
 use Rattle.round_trip.proofs.Tables.{table-none, table-some}
-use Rattle.rules.specs.Rules.{keepsLeaf}
 
 only : (b : Bool) → b && true ≡ b
 only true = refl
@@ -72,7 +71,7 @@ module _ (allowed n : ℕ) (r : Record) where
 
         module _ (kinds : r .kind ≤ time) (vendor : Bool) (vendor-is : vendor ≡ bit vendorBit (r .flags) || eqb (r .vendor) 0) where
           rest-is : (vendor && (cond (isGroup r) (eqb (r .padding) 0 && eqb (r .pads) 0) (keepsLeaf n r) && true)) ≡ keeps allowed n r
-          unfolding keeps keepsLeaf
+          unfolding keeps
           rest-is =
               rw (
                 le-leb 1 (r .depth) some,

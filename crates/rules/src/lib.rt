@@ -11,9 +11,8 @@ ghost use lib.Dec.{eqb};
 ghost use Rattle.flags.specs.Flags.{bit};
 ghost use Rattle.rfc6733.specs.Avp.{vendorBit, mostDepth};
 ghost use Rattle.record.specs.Table.{tableOf};
-ghost use Rattle.rfc6733.specs.Writer.{headOf, keeps, keepers, allowedAfter};
+ghost use Rattle.rfc6733.specs.Writer.{headOf, keepsLeaf, keeps, keepers, allowedAfter};
 ghost use Rattle.record.specs.Stored.{recordAs};
-ghost use Rattle.rules.specs.Rules.{keepsLeaf};
 
 /// The size of the header of the record's AVP.
 pub fn header_size(r: Record) -> usize

@@ -11,12 +11,12 @@ use Rattle.octets.specs.Octets.{pack, over}
 use Rattle.octets.proofs.Lists.{rest, lent, copied, over-more}
 use Rattle.rfc6733.specs.Avp.{padding}
 use Rattle.record.specs.Record.{Record}
-use Rattle.rfc6733.specs.Writer.{headOf, statedData, avpBytes, headFields, padBytes}
+use Rattle.rfc6733.specs.Writer.{headOf, statedData, avpBytes, headFields, padBytes, dataIn}
 use Rattle.round_trip.specs.Rules.{Leaf}
 use Rattle.round_trip.proofs.Lengths.{head-low, head-length, avp-length}
 use Rattle.record.specs.declared.Record as code
 use Rattle.record.specs.Stored.{recordAs}
-use Rattle.writer.specs.Emitting.{dataIn, LeafRoom, Put}
+use Rattle.writer.specs.Emitting.{LeafRoom, Put}
 
 -- ---- its sizes
 

@@ -13,14 +13,14 @@ use Rattle.octets.proofs.Lists.{over-length, over-none, over-more, over-before,
 use Rattle.record.specs.Record.{Record, recordSize}
 use Rattle.record.specs.Forest.{Forest, none, node}
 use Rattle.record.specs.Table.{entryAt, tableOf}
-use Rattle.rfc6733.specs.Writer.{isGroup, headOf, avpBytes, forestBytes, most24, headFields, padBytes, bodyOf}
+use Rattle.rfc6733.specs.Writer.{isGroup, headOf, avpBytes, forestBytes, most24, headFields, padBytes, bodyOf, dataIn}
 use Rattle.round_trip.specs.Forests.{count}
 use Rattle.round_trip.specs.Rules.{Unpadded, Leaf, Valid}
 use Rattle.round_trip.specs.Tables.{run, one}
 use Rattle.round_trip.proofs.Lengths.{head-length}
 use Rattle.round_trip.proofs.Turns.{Turn}
 use Rattle.writer.specs.declared.emit.Taken.{Taken}
-use Rattle.writer.specs.Emitting.{dataIn, Put, Ready, Done}
+use Rattle.writer.specs.Emitting.{Put, Ready, Done}
 use Rattle.writer.proofs.Leaves.{leaf-sizes}
 use Rattle.writer.proofs.Steps.{AtFront, at-front, Step, step}
 

@@ -3,21 +3,17 @@
 use Prim.Native.Nat.{ℕ, _+_, _≤_}
 use mathlib.Core.Path.{_≡_}
 use mathlib.Core.List.{List}
-use lib.ListN.{length, take, drop}
+use lib.ListN.{length}
 use Rattle.octets.specs.Octets.{over}
 use Rattle.record.specs.Record.{Record}
 use Rattle.record.specs.Forest.{Forest}
 use Rattle.record.specs.Table.{tableOf}
-use Rattle.rfc6733.specs.Writer.{statedData, forestBytes, most24}
+use Rattle.rfc6733.specs.Writer.{forestBytes, most24}
 use Rattle.round_trip.specs.Forests.{count}
 use Rattle.round_trip.specs.Rules.{Leaf, Valid}
 use Rattle.writer.specs.declared.emit.Taken.{Taken}
 
 -- ---- a record that is no group
-
--- its data
-abbrev pub dataIn : List ℕ → Record → List ℕ
-dataIn pool r = take (statedData r) (drop (r .place) pool)
 
 -- its data are there, and its AVP fits the room
 pub record LeafRoom (r : Record) (pool : List ℕ) (room : ℕ) : Type 0 where
