@@ -15,7 +15,7 @@ use Rattle.rfc6733.specs.Value.{Value, value}
 use Rattle.record.specs.Kinds.{grouped, time}
 use Rattle.record.specs.Forest as table
 use Rattle.record.specs.Forest.{Forest, none, flat}
-use Rattle.rfc6733.specs.Writer.{statedData, forestBytes, bodyOf, dataIn}
+use Rattle.rfc6733.specs.Writer.{forestBytes, bodyOf, dataIn}
 use Rattle.rfc6733.proofs.Complete.{head, sizes, complete-whole}
 use Rattle.rfc6733.proofs.Items.{payload-length}
 use Rattle.round_trip.specs.Forests.{size}
