@@ -11,7 +11,7 @@ use lib.Seq.{take-all, drop-at, length-take-le}
 use lib.Dec.{leb}
 use borrow.Author.Tests.{leb-true, leb-false}
 use Rattle.io.specs.Counts as io
-use Rattle.octets.specs.Octets.{Bytes, over}
+use Rattle.octets.specs.Octets.{Bytes, over, Put}
 use Rattle.octets.proofs.Lists.{over-length}
 use Rattle.octets.proofs.Numbers.{be-small}
 use Rattle.refusal.specs.Answer.{accepted, refused}
@@ -19,12 +19,12 @@ use Rattle.rfc6733.specs.Header.{messageLength}
 use Rattle.rfc6733.specs.Dictionary.{sawp}
 use Rattle.record.specs.Record.{Record, recordSize, recordBytes, laid}
 use Rattle.rfc6733.specs.Decoder.{Counts, Message, runCounts, messageRecords, messageOf, decoded}
-use Rattle.rfc6733.specs.Dump.{recordLines, firstLine, line, linesText, dump, dumpText, dumped}
+use Rattle.rfc6733.specs.Dump.{recordLines, firstLine, line, linesText, dump, dumpText, dumped, refusalText}
 use Rattle.rfc6733.proofs.Accepted.{when-accepted}
 use Rattle.record.proofs.Layouts.{record-length, laid-length}
 use Rattle.round_trip.specs.Tables.{AllFit}
 use Rattle.round_trip.proofs.Whole.{AllValued, record-back, Whole, sawp-whole}
-use Rattle.lines.specs.Text.{recordsIn, recordsText, messageText, refusalText, Put}
+use Rattle.lines.specs.Text.{wholeRecords, recordsText, messageText}
 use Rattle.lines.proofs.Sizes.{records-short, first-short, refusal-short}
 
 -- the front of an input, no more than k bytes
@@ -36,13 +36,13 @@ front-is k n s e = by (leb (length s) k) refl
     by false f = let h = leb-false (length s) k f in let same : n ≡ k = omega arith in ap (λ (x : ℕ). take x s) same
 
 -- records that were laid out are read back
-records-back : (rs : List Record) (more : List ℕ) → AllFit rs → AllValued rs → recordsIn (length rs) (laid rs ++ more) ≡ rs
+records-back : (rs : List Record) (more : List ℕ) → AllFit rs → AllValued rs → wholeRecords (length rs) (laid rs ++ more) ≡ rs
 records-back [] more f v = refl
 records-back (r ∷ rs) more f v =
     let s = laid rs ++ more in
-    ap (recordsIn (suc (length rs))) (append-assoc (recordBytes r) (laid rs) more)
+    ap (wholeRecords (suc (length rs))) (append-assoc (recordBytes r) (laid rs) more)
     ∙ ap₂ {C = List Record} (λ x y. x ∷ y) (record-back r s (f .0) (v .0))
-    (ap (recordsIn (length rs)) (drop-at (recordBytes r) s recordSize (record-length r)) ∙ records-back rs more (f .1) (v .1))
+    (ap (wholeRecords (length rs)) (drop-at (recordBytes r) s recordSize (record-length r)) ∙ records-back rs more (f .1) (v .1))
 
 -- the text of an input is `text`, and an array of 65,600 bytes has room for it
 pub record Text (s text : List ℕ) : Type 0 where
@@ -86,7 +86,7 @@ module _ (s front : List ℕ) (front-of : front ≡ take 32768 s) where
     accepted-text table t =
         let a = when-accepted sawp 64 1024 front m e in
         let lines : recordsText (m .counts .records) table ≡ linesText (recordLines rs) =
-        ap (λ (x : List Record). linesText (recordLines x)) (ap₂ recordsIn as-many t ∙ records-back rs _ (whole .fits) (whole .valued))
+        ap (λ (x : List Record). linesText (recordLines x)) (ap₂ wholeRecords as-many t ∙ records-back rs _ (whole .fits) (whole .valued))
         in
         let first = line (firstLine (m .counts)) in
         record {

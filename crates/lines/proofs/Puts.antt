@@ -7,9 +7,8 @@ use native.Mathlib.Omega.{arith}
 use lib.ListN.{length, take, drop, set, length-append}
 use lib.Seq.{drop-cons, set-at}
 use borrow.Rule.Slice.PartMut.{putMid}
-use Rattle.octets.specs.Octets.{over}
+use Rattle.octets.specs.Octets.{over, Put}
 use Rattle.octets.proofs.Lists.{rest, lent, copied, over-none, over-length, over-more}
-use Rattle.lines.specs.Text.{Put}
 
 nothing-put : (out : List ℕ) → Put 0 [] out out
 nothing-put out = record { size-is = refl; out-is = sym (over-none out) }

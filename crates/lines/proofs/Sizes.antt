@@ -8,10 +8,9 @@ use Rattle.octets.proofs.Layouts.{fit-at}
 use Rattle.record.specs.Record.{Record, recordLayout}
 use Rattle.rfc6733.specs.Decoder.{Counts}
 use Rattle.record.specs.Table.{bare}
-use Rattle.rfc6733.specs.Dump.{recordLine, recordLines, firstLine, decimal, line, linesText, refusedWord}
+use Rattle.rfc6733.specs.Dump.{recordLine, recordLines, firstLine, decimal, line, linesText, refusedWord, refusalText}
 use Rattle.round_trip.specs.Tables.{Fits, AllFit}
 use Rattle.round_trip.proofs.Whole.{Valued, AllValued}
-use Rattle.lines.specs.Text.{refusalText}
 use Rattle.lines.proofs.Decimals.{decimal-short, decimal-most}
 
 -- each number has no more than so many digits

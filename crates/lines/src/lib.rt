@@ -10,12 +10,12 @@ ghost use mathlib.Core.List.{[], _∷_, _++_};
 ghost use Prim.Native.Nat.{_≤_, _<_, min};
 ghost use lib.ListN.{length};
 ghost use Rattle.io.specs.Counts.{Counts};
-ghost use Rattle.octets.specs.Octets.{over};
+ghost use Rattle.octets.specs.Octets.{over, Put};
 ghost use Rattle.record.specs.Record.{recordAt};
-ghost use Rattle.rfc6733.specs.Dump.{recordLine, decimal, line, dumped};
+ghost use Rattle.rfc6733.specs.Dump.{recordLine, decimal, line, dumped, refusalText};
 ghost use Rattle.refusal.specs.Refusals.{numberOf, amountOf};
 ghost use Rattle.diameter.specs.Answers.{messageAs};
-ghost use Rattle.lines.specs.Text.{Put, Room, recordsText, messageText, refusalText};
+ghost use Rattle.lines.specs.Text.{Room, recordsText, messageText};
 
 /// How many bytes of input are looked at.
 pub const INPUT: usize = 32768;

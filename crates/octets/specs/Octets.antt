@@ -80,6 +80,11 @@ Fit (w ∷ ws) (n ∷ ns) = (n < 256 ^ w) × Fit ws ns
 unfoldable pub over : List ℕ → List ℕ → List ℕ
 over new old = new ++ drop (length new) old
 
+-- n bytes were put over the front of others, and they are bs
+pub record Put (n : ℕ) (bs before after : List ℕ) : Type 0 where
+  pub size-is : n ≡ length bs
+  pub out-is : after ≡ over bs before
+
 -- every number of a list is a byte
 abbrev pub Bytes : List ℕ → Type 0
 Bytes s = (i : ℕ) → getD s i 0 < 256

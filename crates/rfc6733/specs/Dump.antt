@@ -61,9 +61,13 @@ linesText (l ∷ ls) = line l ++ linesText ls
 abbrev pub refusedWord : List ℕ
 refusedWord = 114 ∷ 101 ∷ 102 ∷ 117 ∷ 115 ∷ 101 ∷ 100 ∷ []
 
+-- the line of a refusal: the word, its number and its amount
+abbrev pub refusalText : ℕ → ℕ → List ℕ
+refusalText n a = refusedWord ++ (32 ∷ line (n ∷ a ∷ []))
+
 unfoldable pub dumpText : Dump → List ℕ
 dumpText (lines ls) = linesText ls
-dumpText (refusal n a) = refusedWord ++ (32 ∷ line (n ∷ a ∷ []))
+dumpText (refusal n a) = refusalText n a
 
 -- what the dump writes: up to 32,768 bytes of input, in the sawp reading, with 64 levels and 1,024 records
 unfoldable pub dumped : List ℕ → List ℕ

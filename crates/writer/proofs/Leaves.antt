@@ -7,7 +7,7 @@ use native.Mathlib.Omega.{arith}
 use lib.ListN.{length, take, drop, length-append, length-drop}
 use lib.Seq.{length-take-le}
 use borrow.Rule.Slice.PartMut.{putMid}
-use Rattle.octets.specs.Octets.{pack, over}
+use Rattle.octets.specs.Octets.{pack, over, Put}
 use Rattle.octets.proofs.Lists.{rest, lent, copied, over-more}
 use Rattle.rfc6733.specs.Avp.{padding}
 use Rattle.record.specs.Record.{Record}
@@ -16,7 +16,7 @@ use Rattle.round_trip.specs.Rules.{Leaf}
 use Rattle.round_trip.proofs.Lengths.{head-low, head-length, avp-length}
 use Rattle.record.specs.declared.Record as code
 use Rattle.record.specs.Stored.{recordAs}
-use Rattle.writer.specs.Emitting.{LeafRoom, Put}
+use Rattle.writer.specs.Emitting.{LeafRoom}
 
 -- ---- its sizes
 

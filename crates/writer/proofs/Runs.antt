@@ -8,7 +8,7 @@ use mathlib.Core.List.{List, [], _++_, append-assoc, append-nil}
 use native.Mathlib.Omega.{arith}
 use lib.ListN.{length, take, drop, length-append, length-drop}
 use borrow.Rule.Slice.PartMut.{putMid}
-use Rattle.octets.specs.Octets.{pack, over}
+use Rattle.octets.specs.Octets.{pack, over, Put}
 use Rattle.octets.proofs.Lists.{over-length, over-none, over-more, over-before, lent}
 use Rattle.record.specs.Record.{Record, recordSize}
 use Rattle.record.specs.Forest.{Forest, none, node}
@@ -20,7 +20,7 @@ use Rattle.round_trip.specs.Tables.{run, one}
 use Rattle.round_trip.proofs.Lengths.{head-length}
 use Rattle.round_trip.proofs.Turns.{Turn}
 use Rattle.writer.specs.declared.emit.Taken.{Taken}
-use Rattle.writer.specs.Emitting.{Put, Ready, Done}
+use Rattle.writer.specs.Emitting.{Ready, Done}
 use Rattle.writer.proofs.Leaves.{leaf-sizes}
 use Rattle.writer.proofs.Steps.{AtFront, at-front, Step, step}
 

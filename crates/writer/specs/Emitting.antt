@@ -20,11 +20,6 @@ pub record LeafRoom (r : Record) (pool : List ℕ) (room : ℕ) : Type 0 where
   pub leaf : Leaf (length pool) r
   pub fits : r .length + r .padding ≤ room
 
--- n bytes were put, and they are bs
-pub record Put (n : ℕ) (bs before after : List ℕ) : Type 0 where
-  pub size-is : n ≡ length bs
-  pub out-is : after ≡ over bs before
-
 -- ---- a run of a table
 
 -- the table is valid at a depth, and the bytes of f fit the room and a length

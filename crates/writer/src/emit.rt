@@ -7,13 +7,13 @@ ghost use mathlib.Core.Path.{_≡_};
 ghost use Prim.Native.Nat.{_+_, _≤_, _<_};
 ghost use lib.ListN.{length};
 ghost use lib.Seq.{sets};
-ghost use Rattle.octets.specs.Octets.{octets, pack, over};
+ghost use Rattle.octets.specs.Octets.{octets, pack, over, Put};
 ghost use Rattle.record.specs.Record.{recordSize};
 ghost use Rattle.record.specs.Table.{entryAt};
 ghost use Rattle.rfc6733.specs.Writer.{headOf, avpBytes, headFields, padBytes, dataIn};
 ghost use Rattle.round_trip.specs.Tables.{run, one};
 ghost use Rattle.record.specs.Stored.{recordAs};
-ghost use Rattle.writer.specs.Emitting.{LeafRoom, Put, Ready, Done};
+ghost use Rattle.writer.specs.Emitting.{LeafRoom, Ready, Done};
 
 // How many records were taken, and the bytes of their AVPs.
 pub(super) struct Taken {

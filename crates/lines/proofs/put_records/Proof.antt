@@ -11,7 +11,8 @@ use borrow.Author.Needs.{needs}
 use Rattle.octets.proofs.Lists.{rest}
 use Rattle.record.specs.Record.{recordSize, recordAt}
 use Rattle.rfc6733.specs.Dump.{recordLine, line}
-use Rattle.lines.specs.Text.{Put, recordsText}
+use Rattle.octets.specs.Octets.{Put}
+use Rattle.lines.specs.Text.{recordsText}
 use Rattle.lines.proofs.Records.{linesFrom, lines-first}
 use Rattle.lines.proofs.Puts.{Passed, none-passed, all-passed, Ready, ready, passed}
 use Rattle.lines.proofs.put_records.Statement.{statement}

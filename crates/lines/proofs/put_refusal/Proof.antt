@@ -8,9 +8,8 @@ use lib.ListN.{length, length-take, length-drop}
 use denote.Ref.{now}
 use borrow.Rule.Slice.PartMut.{same-len-mid}
 use borrow.Author.Needs.{needs}
-use Rattle.rfc6733.specs.Dump.{refusedWord, line}
+use Rattle.rfc6733.specs.Dump.{refusedWord, line, refusalText}
 use Rattle.refusal.specs.Refusals.{numberOf, amountOf}
-use Rattle.lines.specs.Text.{refusalText}
 use Rattle.lines.proofs.Puts.{copy-put, Passed, first-passed, all-passed, Ready, ready, passed}
 use Rattle.lines.proofs.put_refusal.Statement.{statement}
 use Rattle.lines.proofs.put_refusal.Tie as tie
