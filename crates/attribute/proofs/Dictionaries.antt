@@ -1,20 +1,22 @@
 -- The kinds by code. A code that a table doesn't list is Unhandled, by induction over the table; the codes that it lists are one
--- computation. So the sawp dictionary is the table of docs/FORMAT.md, 5.1, at every code, the table of a reading gives its kinds, and both
--- readings have the same groups.
+-- computation. So the sawp dictionary is the table of docs/FORMAT.md, 5.1, at every code, and the table of a reading with what is beside
+-- it is the reading's dictionary.
 -- Assumes nothing.
 use Prim.Native.Nat.{ℕ, max, _≤_, _<_}
-use mathlib.Core.Path.{_≡_, refl, sym, ap, _∙_}
-use mathlib.Core.Bool.{Bool, true, false, cond}
-use mathlib.Core.List.{List, [], _∷_, _++_, map}
+use mathlib.Core.Path.{_≡_, refl, sym, ap, _∙_, fun-ext}
+use mathlib.Core.Bool.{Bool, true, false, not, cond, _||_}
+use mathlib.Core.List.{List, [], _∷_, _++_}
 use native.Mathlib.Omega.{arith}
 use lib.ListN.{getD}
-use lib.Dec.{ltb, eqb}
-use borrow.Author.Tests.{ne-eqb, ltb-true, ltb-false}
-use Rattle.rfc6733.specs.Value.{oneOf}
-use Rattle.record.specs.Kinds.{unhandled, grouped, time}
-use Rattle.rfc6733.specs.Dictionary.{Row, kindIn, baseAvps, sawpAvps, sawp, rfc}
+use lib.Dec.{leb, ltb, eqb}
+use borrow.Author.Tests.{ne-eqb, ltb-true, ltb-false, le-leb}
+use Rattle.rfc6733.specs.Value.{Value, oneOf}
+use Rattle.record.specs.Kinds.{unhandled, time}
+use Rattle.rfc6733.specs.Dictionary.{Dictionary, Row, kindIn, baseAvps, sawpAvps, familyAddress, bareAddress, sawp, rfc}
 use Rattle.rfc6733.proofs.Listed.{one-of-append, passed}
-use Rattle.attribute.specs.Attributes.{dictionary, kindTable, kindBy}
+use Rattle.attribute.specs.Attributes.{dictionary, kindTable}
+use Rattle.attribute.specs.ByTable.{known, kindBy, addressBy, dictionaryBy, besideTable}
+use Rattle.attribute.specs.declared.Dictionary as declared
 use Rattle.attribute.specs.declared.Reading.{Reading}
 use Rattle.attribute.specs.declared.Reading.the-variants.{Sawp, Rfc}
 use Rattle.attribute.specs.Kinds.{Codes, kindsByCode, kindAmong}
@@ -68,34 +70,6 @@ document-kinds c =
     same (codesIn sawpAvps) refl c
     (λ h. same (codesAmong kindsByCode) refl c (λ h'. off-rows sawpAvps c h ∙ sym (off-codes kindsByCode c h')))
 
--- ---- the groups
-
-abbrev pub groups : List ℕ
-groups = 260 ∷ 279 ∷ 284 ∷ 297 ∷ []
-
--- among these codes the table has the groups that are listed
-abbrev GroupsAt : List Row → List ℕ → Type 0
-GroupsAt rs cs = map (λ c. eqb (kindIn rs c) grouped) cs ≡ map (λ c. oneOf c groups) cs
-
-are-groups : (rs : List Row) → GroupsAt rs groups → GroupsAt rs (codesIn rs) → (c : ℕ) → eqb (kindIn rs c) grouped ≡ oneOf c groups
-are-groups rs at-groups at-rows c =
-    let same = same-by-list (λ c. eqb (kindIn rs c) grouped) (λ c. oneOf c groups) in
-    same groups at-groups c (λ h. same (codesIn rs) at-rows c (λ h'. rw (off-rows rs c h', h)))
-
-pub sawp-groups : (c : ℕ) → eqb (kindIn sawpAvps c) grouped ≡ oneOf c groups
-sawp-groups = are-groups sawpAvps refl refl
-
-pub base-groups : (c : ℕ) → eqb (kindIn baseAvps c) grouped ≡ oneOf c groups
-base-groups = are-groups baseAvps refl refl
-
--- ---- a lent table
-
--- the table of a reading gives its kinds
-pub kind-by-table : (r : Reading) (c v : ℕ) → kindBy (kindTable r) r c v ≡ dictionary r .kind c v
-unfolding kindBy kindTable dictionary sawp rfc
-kind-by-table Sawp c v = entry-of sawpAvps (omega arith) c
-kind-by-table Rfc c v = ap (λ (k : ℕ). cond (eqb v 0) k unhandled) (entry-of baseAvps (omega arith) c)
-
 -- ---- the greatest kind
 
 abbrev greatestKind : List Row → ℕ
@@ -110,11 +84,39 @@ kind-within (r ∷ rs) c = by (eqb c (r .code)) (kind-within rs c)
     by true h = omega arith
     by false h = omega arith
 
-pub kind-at-most : (reading : Reading) (code vendor : ℕ) → dictionary reading .kind code vendor ≤ time
-unfolding dictionary sawp rfc
-kind-at-most Sawp code vendor = kind-within sawpAvps code
-kind-at-most Rfc code vendor = by (eqb vendor 0)
+-- ---- a lent table
+
+known-known : (k : ℕ) → known (known k) ≡ known k
+known-known k = by (leb k time) refl
   where
-    by : (b : Bool) → cond b (kindIn baseAvps code) 0 ≤ time
-    by true = kind-within baseAvps code
-    by false = omega arith
+    by : (b : Bool) → leb k time ≡ b → known (cond b k unhandled) ≡ cond b k unhandled
+    by true e = rw e
+    by false e = refl
+
+-- what is found for a code is a kind, whatever the bytes of the table are
+pub kind-is-known : (d : declared.Dictionary) (ks : List ℕ) (c v : ℕ) → known (dictionaryBy d ks .kind c v) ≡ dictionaryBy d ks .kind c v
+unfolding dictionaryBy kindBy
+kind-is-known d ks c v = by (not (d .vendors) || eqb v 0)
+  where
+    by : (b : Bool) → let k = cond b (known (getD ks c unhandled)) unhandled in known k ≡ k
+    by true = known-known (getD ks c unhandled)
+    by false = refl
+
+-- the table of a list of rows, each of a kind
+listed-kind : (rs : List Row) → greatest (codesIn rs) < 512 → greatestKind rs ≤ time → (c : ℕ)
+    → known (getD (table (kindIn rs) 512) c unhandled) ≡ kindIn rs c
+listed-kind rs codes kinds c =
+    let within : kindIn rs c ≤ time = omega (arith, kind-within rs c) in
+    ap known (entry-of rs codes c) ∙ rw (le-leb _ _ within)
+
+same-kinds : {k k′ : ℕ → ℕ → ℕ} (asAddress : List ℕ → Value) → ((c v : ℕ) → k c v ≡ k′ c v)
+    → _≡_ {A = Dictionary} (record { kind = k; asAddress = asAddress }) (record { kind = k′; asAddress = asAddress })
+same-kinds asAddress same = ap (λ (k : ℕ → ℕ → ℕ). record { kind = k; asAddress = asAddress }) (fun-ext (λ c. fun-ext (same c)))
+
+-- the table of a reading, with what is beside it, is the reading's dictionary
+pub dictionary-by-table : (r : Reading) → dictionaryBy (besideTable r) (kindTable r) ≡ dictionary r
+unfolding dictionaryBy kindBy addressBy besideTable kindTable dictionary sawp rfc
+dictionary-by-table Sawp = same-kinds bareAddress (λ c v. listed-kind sawpAvps (omega arith) (omega arith) c)
+dictionary-by-table Rfc =
+    same-kinds familyAddress
+    (λ c v. ap (λ (k : ℕ). cond (eqb v 0) k unhandled) (listed-kind baseAvps (omega arith) (omega arith) c))

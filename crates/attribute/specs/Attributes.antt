@@ -3,9 +3,7 @@
 use Prim.Native.Nat.{ℕ}
 use mathlib.Core.Bool.{cond}
 use mathlib.Core.List.{List, [], _∷_}
-use lib.ListN.{getD}
 use lib.Dec.{eqb}
-use Rattle.record.specs.Kinds.{unhandled}
 use Rattle.rfc6733.specs.Dictionary.{Dictionary, sawp, rfc}
 use Rattle.attribute.specs.Tables.{table}
 use Rattle.attribute.specs.declared.AttributeCode.{AttributeCode}
@@ -22,11 +20,6 @@ dictionary Rfc = rfc
 -- the kinds of the codes 0 to 511 in a reading, where no vendor counts
 unfoldable pub kindTable : Reading → List ℕ
 kindTable r = table (λ c. dictionary r .kind c 0) 512
-
--- the kind of a code and a vendor from such a table: a code past it is Unhandled, and so is a vendor's code in the RFC reading
-unfoldable pub kindBy : List ℕ → Reading → ℕ → ℕ → ℕ
-kindBy ks Sawp c v = getD ks c unhandled
-kindBy ks Rfc c v = cond (eqb v 0) (getD ks c unhandled) unhandled
 
 -- a row: a code and its name
 pub record Name : Type 0 where

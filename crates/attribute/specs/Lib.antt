@@ -1,3 +1,4 @@
 pub mod Attributes
+pub mod ByTable
 pub mod Kinds
 pub mod Tables

@@ -1,18 +1,18 @@
-// AVP attributes: their names, and the kind of each by its code in both readings.
-// This crate knows the dictionary, and nothing of bytes.
+// AVP attributes: their names, and the dictionary of each reading, as a table of kinds by code and what is beside it.
+// This crate knows dictionaries, and nothing of bytes.
 pub mod kinds;
 
 use kinds::CODES;
 use kinds::KINDS;
 use record::kinds::DIAMETER_IDENTITY;
 use record::kinds::OCTET_STRING;
+use record::kinds::TIME;
 use record::kinds::UNHANDLED;
 ghost use mathlib.Core.Path.{_≡_};
-ghost use lib.Dec.{eqb};
 ghost use lib.ListN.{getD};
-ghost use Rattle.record.specs.Kinds.{unhandled, grouped};
-ghost use Rattle.rfc6733.specs.Dictionary.{kindIn, sawpAvps};
-ghost use Rattle.attribute.specs.Attributes.{dictionary, kindTable, kindBy, attributeOf, attributeIn};
+ghost use Rattle.record.specs.Kinds.{unhandled};
+ghost use Rattle.attribute.specs.Attributes.{kindTable, attributeOf, attributeIn};
+ghost use Rattle.attribute.specs.ByTable.{known, dictionaryBy, besideTable};
 
 // Codes of RFC 6733, section 4.5.
 const CLASS: u32 = 25;
@@ -26,6 +26,31 @@ const SAWP_DESTINATION_REALM: u32 = 235;
 pub enum Reading {
     Sawp,
     Rfc,
+}
+
+/// What a dictionary has beside its kinds: are a vendor's codes its own, and does an Address start with its family? The kinds are lent
+/// beside it, as a table by code.
+pub struct Dictionary {
+    pub vendors: bool,
+    pub families: bool,
+}
+
+impl Reading {
+    /// What the reading's dictionary has beside `kind_table`.
+    pub fn dictionary(self) -> Dictionary
+        ensures { λ r. ⌜ r ≡ besideTable self ⌝ }
+    {
+        match self {
+            Reading::Sawp => Dictionary {
+                vendors: false,
+                families: false,
+            },
+            Reading::Rfc => Dictionary {
+                vendors: true,
+                families: true,
+            },
+        }
+    }
 }
 
 /// AVP Attribute Names as stated in RFC 6733, section 4.5.
@@ -184,51 +209,34 @@ pub fn kind_table(reading: Reading) -> [u8; CODES]
     kinds
 }
 
+// A number that is no kind counts as Unhandled.
+fn known(kind: u8) -> u8
+    ensures { λ r. ⌜ r ≡ known kind ⌝ }
+{
+    if kind <= TIME { kind } else { UNHANDLED }
+}
+
 // The entry of a code in a table of kinds; past it a code is Unhandled.
 fn entry(kinds: &[u8], code: u32) -> u8
-    ensures { λ r. ⌜ r ≡ getD (now (kinds .entry)) code unhandled ⌝ }
+    ensures { λ r. ⌜ r ≡ known (getD (now (kinds .entry)) code unhandled) ⌝ }
 {
     let at = code as usize;
     if at < kinds.len() {
-        kinds[at]
+        known(kinds[at])
     } else {
         UNHANDLED
     }
 }
 
-/// The kind of an AVP by its code and vendor. The vendor is 0 without the vendor bit, and `kinds` is what `kind_table` made for the same
-/// reading: with the other's table it answers that table's kinds, and asks for the vendor as this reading does.
-pub fn kind(reading: Reading, kinds: &[u8], code: u32, vendor: u32) -> u8
-    ensures { λ r. ⌜ r ≡ kindBy (now (kinds .entry)) reading code vendor ⌝ }
+/// The kind of an AVP by its code and vendor, which is 0 without the vendor bit. `kinds` are those of the codes from 0 on.
+pub fn kind(d: Dictionary, kinds: &[u8], code: u32, vendor: u32) -> u8
+    ensures { λ r. ⌜ r ≡ dictionaryBy d (now (kinds .entry)) .kind code vendor ⌝ }
 {
-    let Reading::Rfc = reading else {
+    if !d.vendors {
         return entry(kinds, code);
-    };
+    }
     if vendor != 0 {
         return UNHANDLED;
     }
     entry(kinds, code)
-}
-
-// Is the code that of a group? Both readings have the same ones.
-fn group_code(code: u32) -> bool
-    ensures { λ r. ⌜ r ≡ eqb (kindIn sawpAvps code) grouped ⌝ }
-{
-    match code {
-        260 | 279 | 284 | 297 => true,
-        _ => false,
-    }
-}
-
-/// Is an AVP Grouped, by its code and vendor? A run is counted by this, which takes no table.
-pub fn is_grouped(reading: Reading, code: u32, vendor: u32) -> bool
-    ensures { λ r. ⌜ r ≡ eqb (dictionary reading .kind code vendor) grouped ⌝ }
-{
-    let Reading::Rfc = reading else {
-        return group_code(code);
-    };
-    if vendor == 0 {
-        return group_code(code);
-    }
-    false
 }

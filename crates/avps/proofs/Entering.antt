@@ -7,7 +7,7 @@ use mathlib.Core.Bool.{Bool, true, false}
 use mathlib.Core.List.{List}
 use native.Mathlib.Omega.{arith}
 use lib.Dec.{eqb}
-use borrow.Author.Tests.{le-leb, eqb-false}
+use borrow.Author.Tests.{eqb-false}
 use Rattle.octets.specs.Run.{done, tree, tiles}
 use Rattle.octets.proofs.Lists.{over-none}
 use Rattle.rfc6733.specs.Value as rfc
@@ -18,11 +18,8 @@ use Rattle.rfc6733.specs.Records.{avps, tiling, errors, groupValue}
 use Rattle.rfc6733.specs.Entered.{valueIn, entered}
 use Rattle.rfc6733.proofs.Tiling.{tiles-any}
 use Rattle.rfc6733.proofs.KindsRead.{Kind}
-use Rattle.attribute.specs.declared.Reading.{Reading}
-use Rattle.attribute.specs.Attributes.{dictionary, kindTable, kindBy}
-use Rattle.attribute.proofs.Dictionaries.{kind-by-table, kind-at-most}
 use Rattle.value.specs.declared.Read.{Read}
-use Rattle.value.specs.Values.{kindOf, numberOf, readAs, Shows, known, newValue}
+use Rattle.value.specs.Values.{kindOf, numberOf, readAs, Shows, newValue}
 use Rattle.avps.specs.declared.fill.Ran.{Ran}
 use Rattle.avps.specs.Fill.{Recorded, Members}
 use Rattle.avps.proofs.OtherKinds.{Other, other-read}
@@ -36,21 +33,14 @@ pub record Group (D : Dictionary) (code vendor : ℕ) (s : List ℕ) : Type 0 wh
 -- they are not
 record NoGroup (D : Dictionary) (code vendor : ℕ) (s : List ℕ) : Type 0 where
   entered-is : entered D code vendor s ≡ done
-  value-is : valueIn D code vendor s ≡ newValue D (D .kind code vendor) s
-
--- the kind that is found in the table of a reading is the dictionary's
-pub kind-found : (reading : Reading) (ks : List ℕ) (code vendor k : ℕ) → ks ≡ kindTable reading → k ≡ kindBy ks reading code vendor
-    → known k ≡ dictionary reading .kind code vendor
-kind-found reading ks code vendor k lent found =
-    let is = found ∙ ap (λ (t : List ℕ). kindBy t reading code vendor) lent ∙ kind-by-table reading code vendor in
-    ap known is ∙ rw (le-leb _ _ (kind-at-most reading code vendor))
+  value-is : valueIn D code vendor s ≡ newValue (D .asAddress) (D .kind code vendor) s
 
 -- the kind of a value that is shown
 shown-kind : {v : rfc.Value} {s : List ℕ} {r : Read} → Shows v s r → v .kind ≡ kindOf (r .value)
 unfolding readAs
 shown-kind shown = ap (λ (v : rfc.Value). v .kind) (sym (shown .value))
 
-module _ {D : Dictionary} {code vendor : ℕ} {s : List ℕ} {r : Read} (shown : Shows (newValue D (D .kind code vendor) s) s r) where
+module _ {D : Dictionary} {code vendor : ℕ} {s : List ℕ} {r : Read} (shown : Shows (newValue (D .asAddress) (D .kind code vendor) s) s r) where
   pub a-group : Kind Other (D .asAddress s) → kindOf (r .value) ≡ grouped → Group D code vendor s
   unfolding newValue valueIn entered groupValue
   a-group h kind = by (eqb (D .kind code vendor) grouped) (tiling s) refl refl

@@ -1,5 +1,5 @@
 // Fills a store with the records of a run that is known to tile and to fit: the run, the AVP and the value call each other in turn.
-use attribute::Reading;
+use attribute::Dictionary;
 use avp::AVP;
 use flags::ErrorFlags;
 use front::First;
@@ -18,7 +18,7 @@ ghost use Rattle.rfc6733.specs.Avp.{Exact, avpReserved};
 ghost use Rattle.rfc6733.specs.Records.{avps};
 ghost use Rattle.rfc6733.specs.Entered.{entered};
 ghost use Rattle.front.specs.Front.{avpOf};
-ghost use Rattle.attribute.specs.Attributes.{dictionary, kindTable};
+ghost use Rattle.attribute.specs.ByTable.{dictionaryBy};
 ghost use Rattle.avps.specs.Fill.{depthAt, Room, Recorded, Members};
 
 // How many records, and their error flags joined.
@@ -60,17 +60,16 @@ fn own_errors(a: AVP, pads: u32) -> u8
 
 // The records of the run `s`, which stands at `place` of the input. Of the levels `left` remain, its own among them.
 pub(super) fn read_run(
-    reading: Reading,
+    d: Dictionary,
     kinds: &[u8],
     s: &[u8],
     place: usize,
     left: usize,
     store: &mut [u8],
 ) -> Ran
-    requires { ⌜ tiles (tree (avps (dictionary reading)) (now s)) ≡ true ⌝ }
-    requires { ⌜ Room (tree (avps (dictionary reading)) (now s)) place (length (now s)) left (length (now store)) ⌝ }
-    requires { ⌜ now kinds ≡ kindTable reading ⌝ }
-    ensures { λ r. ⌜ Recorded (dictionary reading) (tree (avps (dictionary reading)) (now (s .entry))) place (depthAt left) r (now (store .entry)) (now (store .exit)) ⌝ }
+    requires { ⌜ tiles (tree (avps (dictionaryBy d (now kinds))) (now s)) ≡ true ⌝ }
+    requires { ⌜ Room (tree (avps (dictionaryBy d (now kinds))) (now s)) place (length (now s)) left (length (now store)) ⌝ }
+    ensures { λ r. ⌜ Recorded (dictionaryBy d (now (kinds .entry))) (tree (avps (dictionaryBy d (now (kinds .entry)))) (now (s .entry))) place (depthAt left) r (now (store .entry)) (now (store .exit)) ⌝ }
 {
     let mut at: usize = 0;
     let mut n: usize = 0;
@@ -81,7 +80,7 @@ pub(super) fn read_run(
         };
         let next = at + a.size;
         let one = read_avp(
-            reading,
+            d,
             kinds,
             &s[at..next],
             a,
@@ -98,7 +97,7 @@ pub(super) fn read_run(
 
 // The records of the AVP `a`, whose own bytes are `s`: its own, and its members' after it.
 fn read_avp(
-    reading: Reading,
+    d: Dictionary,
     kinds: &[u8],
     s: &[u8],
     a: AVP,
@@ -107,14 +106,13 @@ fn read_avp(
     store: &mut [u8],
 ) -> Ran
     requires { ⌜ (a ≡ avpOf (now s)) × Exact (now s) ⌝ }
-    requires { ⌜ Room (tree (avps (dictionary reading)) (now s)) place (length (now s)) left (length (now store)) ⌝ }
-    requires { ⌜ now kinds ≡ kindTable reading ⌝ }
-    ensures { λ r. ⌜ Recorded (dictionary reading) (tree (avps (dictionary reading)) (now (s .entry))) place (depthAt left) r (now (store .entry)) (now (store .exit)) ⌝ }
+    requires { ⌜ Room (tree (avps (dictionaryBy d (now kinds))) (now s)) place (length (now s)) left (length (now store)) ⌝ }
+    ensures { λ r. ⌜ Recorded (dictionaryBy d (now (kinds .entry))) (tree (avps (dictionaryBy d (now (kinds .entry)))) (now (s .entry))) place (depthAt left) r (now (store .entry)) (now (store .exit)) ⌝ }
 {
     let from = a.header_size();
     let to = a.length;
     let value = read_value(
-        reading,
+        d,
         kinds,
         a.code,
         a.vendor_id,
@@ -146,7 +144,7 @@ fn read_avp(
 
 // The value of an AVP's data, which stand at `place`, and the records of its members, which are one level deeper.
 fn read_value(
-    reading: Reading,
+    d: Dictionary,
     kinds: &[u8],
     code: u32,
     vendor: u32,
@@ -156,15 +154,14 @@ fn read_value(
     store: &mut [u8],
 ) -> Valued
     requires { ⌜ 0 < left ⌝ }
-    requires { ⌜ Room (entered (dictionary reading) code vendor (now «data»)) place (length (now «data»)) (left - 1) (length (now store)) ⌝ }
-    requires { ⌜ now kinds ≡ kindTable reading ⌝ }
-    ensures { λ r. ⌜ Members (dictionary reading) code vendor (now («data» .entry)) place (depthAt left) r (now (store .entry)) (now (store .exit)) ⌝ }
+    requires { ⌜ Room (entered (dictionaryBy d (now kinds)) code vendor (now «data»)) place (length (now «data»)) (left - 1) (length (now store)) ⌝ }
+    ensures { λ r. ⌜ Members (dictionaryBy d (now (kinds .entry))) code vendor (now («data» .entry)) place (depthAt left) r (now (store .entry)) (now (store .exit)) ⌝ }
 {
-    let read = Value::new(reading, attribute::kind(reading, kinds, code, vendor), data);
+    let read = Value::new(d.families, attribute::kind(d, kinds, code, vendor), data);
     let value = read.value;
     let kind = value.kind();
     if kind == GROUPED {
-        let members = read_run(reading, kinds, data, place, left - 1, store);
+        let members = read_run(d, kinds, data, place, left - 1, store);
         return Valued {
             kind,
             number: 0,

@@ -2,7 +2,7 @@
 // This crate knows no message. It writes nothing until everything is known to fit, so a refusal has changed no byte.
 mod fill;
 
-use attribute::Reading;
+use attribute::Dictionary;
 use avp::AVP;
 use count::Counted;
 use record::Record;
@@ -15,7 +15,7 @@ ghost use Rattle.rfc6733.specs.Records.{avps};
 ghost use Rattle.rfc6733.specs.Avp.{mostDepth};
 ghost use Rattle.record.specs.Store.{capacity, stored};
 ghost use Rattle.rfc6733.specs.Decoder.{runRecords};
-ghost use Rattle.attribute.specs.Attributes.{dictionary};
+ghost use Rattle.attribute.specs.ByTable.{dictionaryBy};
 ghost use Rattle.avps.specs.Fill.{Room, Cleared};
 ghost use Rattle.avps.specs.Answers.{answerOf, runAnswer};
 
@@ -48,33 +48,39 @@ fn clear(store: &mut [u8])
 }
 
 // Fills the store with the records of the run `s`, which stands at `place`, and with zero after them. Answers their error flags.
-fn fill_store(reading: Reading, s: &[u8], place: usize, store: &mut [u8]) -> u8
-    requires { ⌜ tiles (tree (avps (dictionary reading)) (now s)) ≡ true ⌝ }
-    requires { ⌜ Room (tree (avps (dictionary reading)) (now s)) place (length (now s)) mostDepth (length (now store)) ⌝ }
-    ensures { λ r. ⌜ Cleared (dictionary reading) (tree (avps (dictionary reading)) (now (s .entry))) place r (now (store .entry)) (now (store .exit)) ⌝ }
+fn fill_store(d: Dictionary, kinds: &[u8], s: &[u8], place: usize, store: &mut [u8]) -> u8
+    requires { ⌜ tiles (tree (avps (dictionaryBy d (now kinds))) (now s)) ≡ true ⌝ }
+    requires { ⌜ Room (tree (avps (dictionaryBy d (now kinds))) (now s)) place (length (now s)) mostDepth (length (now store)) ⌝ }
+    ensures { λ r. ⌜ Cleared (dictionaryBy d (now (kinds .entry))) (tree (avps (dictionaryBy d (now (kinds .entry)))) (now (s .entry))) place r (now (store .entry)) (now (store .exit)) ⌝ }
 {
-    let kinds = attribute::kind_table(reading);
-    let ran = fill::read_run(reading, &kinds, s, place, AVP::MOST_DEPTH, store);
+    let ran = fill::read_run(d, kinds, s, place, AVP::MOST_DEPTH, store);
     let n = ran.records;
     clear(&mut store[n * Record::SIZE..]);
     ran.errors
 }
 
-/// Reads the run `s`, which stands at `place` of the input, into records in `store`. Headers may be tried on `limit` levels.
+/// Reads the run `s`, which stands at `place` of the input, by a dictionary, into records in `store`. Headers may be tried on `limit` levels.
 /// A run that ends past the last place that a record can have is TooLong.
-pub fn parse_avps(reading: Reading, limit: usize, s: &[u8], place: u32, store: &mut [u8]) -> Filled
-    ensures answer { λ r. ⌜ answerOf r ≡ runAnswer (dictionary reading) limit (capacity (length (now (store .entry)))) place (now (s .entry)) ⌝ }
-    ensures store { λ r. ⌜ now (store .exit) ≡ stored (answerOf r) (runRecords (dictionary reading) place (now (s .entry))) (now (store .entry)) ⌝ }
+pub fn parse_avps(
+    d: Dictionary,
+    kinds: &[u8],
+    limit: usize,
+    s: &[u8],
+    place: u32,
+    store: &mut [u8],
+) -> Filled
+    ensures answer { λ r. ⌜ answerOf r ≡ runAnswer (dictionaryBy d (now (kinds .entry))) limit (capacity (length (now (store .entry)))) place (now (s .entry)) ⌝ }
+    ensures store { λ r. ⌜ now (store .exit) ≡ stored (answerOf r) (runRecords (dictionaryBy d (now (kinds .entry))) place (now (s .entry))) (now (store .entry)) ⌝ }
 {
     if ((LAST_PLACE - place) as usize) < s.len() {
         return Filled::Refused(Refusal::TooLong);
     }
-    match count::count_run(reading, s, limit) {
+    match count::count_run(d, kinds, s, limit) {
         Counted::Fits { records, tried } => {
             if store.len() / Record::SIZE < records {
                 return Filled::Refused(Refusal::NoRecords(records));
             }
-            let errors = fill_store(reading, s, place as usize, store);
+            let errors = fill_store(d, kinds, s, place as usize, store);
             Filled::Accepted(Counts {
                 errors,
                 records,

@@ -1,8 +1,9 @@
 // Counting a run before anything is written: does it tile, how many records has it, how many headers are tried?
 // This crate looks at headers and never at values, and writes nothing. The depth limit bounds how deep it calls itself.
-use attribute::Reading;
+use attribute::Dictionary;
 use avp::AVP;
 use front::First;
+use record::kinds::GROUPED;
 use refusal::Refusal;
 ghost use mathlib.Core.Path.{_≡_};
 ghost use Prim.Native.Nat.{_<_};
@@ -11,7 +12,7 @@ ghost use Rattle.rfc6733.specs.Records.{avps};
 ghost use Rattle.rfc6733.specs.Avp.{Exact};
 ghost use Rattle.rfc6733.specs.Decoder.{allowed};
 ghost use Rattle.front.specs.Front.{avpOf};
-ghost use Rattle.attribute.specs.Attributes.{dictionary};
+ghost use Rattle.attribute.specs.ByTable.{dictionaryBy};
 ghost use Rattle.count.specs.Counts.{levelOf, answerOf, countOf};
 
 /// How many records a run has and how many headers are tried, or why it is refused.
@@ -40,9 +41,9 @@ pub fn allowed(limit: usize) -> bool
     limit <= AVP::MOST_DEPTH
 }
 
-/// Counts the run `s`. Headers may be tried on `limit` levels, its own among them.
-pub fn count_run(reading: Reading, s: &[u8], limit: usize) -> Counted
-    ensures { λ r. ⌜ answerOf r ≡ countOf limit (tree (avps (dictionary reading)) (now (s .entry))) ⌝ }
+/// Counts the run `s` by a dictionary. Headers may be tried on `limit` levels, its own among them.
+pub fn count_run(d: Dictionary, kinds: &[u8], s: &[u8], limit: usize) -> Counted
+    ensures { λ r. ⌜ answerOf r ≡ countOf limit (tree (avps (dictionaryBy d (now (kinds .entry)))) (now (s .entry))) ⌝ }
 {
     if !allowed(limit) {
         return Counted::Refused(Refusal::BadDepth);
@@ -51,7 +52,7 @@ pub fn count_run(reading: Reading, s: &[u8], limit: usize) -> Counted
         tiles,
         records,
         tried,
-    } = count_level(reading, s, limit)
+    } = count_level(d, kinds, s, limit)
     else {
         // NotTiled comes first
         if !front::tiles(s) {
@@ -66,8 +67,8 @@ pub fn count_run(reading: Reading, s: &[u8], limit: usize) -> Counted
 }
 
 // Counts the run `s`. Headers may be tried on so many levels as are left, its own among them.
-fn count_level(reading: Reading, s: &[u8], left: usize) -> Level
-    ensures { λ r. ⌜ r ≡ levelOf left (tree (avps (dictionary reading)) (now (s .entry))) ⌝ }
+fn count_level(d: Dictionary, kinds: &[u8], s: &[u8], left: usize) -> Level
+    ensures { λ r. ⌜ r ≡ levelOf left (tree (avps (dictionaryBy d (now (kinds .entry)))) (now (s .entry))) ⌝ }
 {
     let mut records: usize = 0;
     let mut tried: usize = 0;
@@ -88,7 +89,7 @@ fn count_level(reading: Reading, s: &[u8], left: usize) -> Level
             tiles: _,
             records: r,
             tried: t,
-        } = count_avp(reading, &s[at..next], a, left)
+        } = count_avp(d, kinds, &s[at..next], a, left)
         else {
             return Level::TooDeep;
         };
@@ -104,11 +105,11 @@ fn count_level(reading: Reading, s: &[u8], left: usize) -> Level
 }
 
 // Counts the AVP `a`, whose own bytes are `s`, with what is inside it.
-fn count_avp(reading: Reading, s: &[u8], a: AVP, left: usize) -> Level
+fn count_avp(d: Dictionary, kinds: &[u8], s: &[u8], a: AVP, left: usize) -> Level
     requires { ⌜ (a ≡ avpOf (now s)) × Exact (now s) × (0 < left) ⌝ }
-    ensures { λ r. ⌜ r ≡ levelOf left (tree (avps (dictionary reading)) (now (s .entry))) ⌝ }
+    ensures { λ r. ⌜ r ≡ levelOf left (tree (avps (dictionaryBy d (now (kinds .entry)))) (now (s .entry))) ⌝ }
 {
-    if !attribute::is_grouped(reading, a.code, a.vendor_id) {
+    if attribute::kind(d, kinds, a.code, a.vendor_id) != GROUPED {
         return Level::Counts {
             tiles: true,
             records: 1,
@@ -121,7 +122,7 @@ fn count_avp(reading: Reading, s: &[u8], a: AVP, left: usize) -> Level
         tiles,
         records,
         tried,
-    } = count_level(reading, &s[from..to], left - 1)
+    } = count_level(d, kinds, &s[from..to], left - 1)
     else {
         return Level::TooDeep;
     };

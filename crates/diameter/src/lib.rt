@@ -1,5 +1,6 @@
 // Decoding: a message or one AVP, from a lent slice to a header, records in a lent store, error flags, counts and a length.
 // The header and the limit are tested here; `avps` reads the AVPs, and writes nothing until everything is known to fit.
+use attribute::Dictionary;
 use attribute::Reading;
 use avp::AVP;
 use avps::Filled;
@@ -13,6 +14,7 @@ ghost use lib.ListN.{length};
 ghost use Rattle.rfc6733.specs.Decoder.{allowed, decoded, messageRecords, avpAlone, aloneRecords};
 ghost use Rattle.record.specs.Store.{capacity, stored};
 ghost use Rattle.attribute.specs.Attributes.{dictionary};
+ghost use Rattle.attribute.specs.ByTable.{dictionaryBy};
 ghost use Rattle.avps.specs.Answers as avps;
 ghost use Rattle.diameter.specs.Answers.{Headed, Complete, answerOf};
 
@@ -36,7 +38,8 @@ pub const MOST_DEPTH: usize = AVP::MOST_DEPTH;
 
 // A message whose header was accepted.
 fn parse_body(
-    reading: Reading,
+    d: Dictionary,
+    kinds: &[u8],
     limit: usize,
     header: Header,
     errors: u8,
@@ -45,12 +48,12 @@ fn parse_body(
 ) -> Decoded
     requires { ⌜ allowed limit ≡ true ⌝ }
     requires { ⌜ Headed header errors (now input) ⌝ }
-    ensures answer { λ r. ⌜ answerOf r ≡ decoded (dictionary reading) limit (capacity (length (now (store .entry)))) (now (input .entry)) ⌝ }
-    ensures store { λ r. ⌜ now (store .exit) ≡ stored (answerOf r) (messageRecords (dictionary reading) (now (input .entry))) (now (store .entry)) ⌝ }
+    ensures answer { λ r. ⌜ answerOf r ≡ decoded (dictionaryBy d (now (kinds .entry))) limit (capacity (length (now (store .entry)))) (now (input .entry)) ⌝ }
+    ensures store { λ r. ⌜ now (store .exit) ≡ stored (answerOf r) (messageRecords (dictionaryBy d (now (kinds .entry))) (now (input .entry))) (now (store .entry)) ⌝ }
 {
     let length = header.length as usize;
     let body = &input[Header::SIZE..length];
-    match avps::parse_avps(reading, limit, body, Header::SIZE as u32, store) {
+    match avps::parse_avps(d, kinds, limit, body, Header::SIZE as u32, store) {
         Filled::Accepted(run) => Decoded::Accepted(Message {
             header,
             errors: flags::join(errors, run.errors),
@@ -71,26 +74,37 @@ pub fn parse(reading: Reading, limit: usize, input: &[u8], store: &mut [u8]) -> 
         return Decoded::Refused(Refusal::BadDepth);
     }
     match Header::parse(input) {
-        Parsed::Accepted { header, errors } => parse_body(
-            reading,
-            limit,
-            header,
-            errors,
-            input,
-            store,
-        ),
+        Parsed::Accepted { header, errors } => {
+            let kinds = attribute::kind_table(reading);
+            parse_body(
+                reading.dictionary(),
+                &kinds,
+                limit,
+                header,
+                errors,
+                input,
+                store,
+            )
+        }
         Parsed::Refused(why) => Decoded::Refused(why),
     }
 }
 
 // An AVP that is complete.
-fn parse_one(reading: Reading, limit: usize, size: usize, input: &[u8], store: &mut [u8]) -> Filled
+fn parse_one(
+    d: Dictionary,
+    kinds: &[u8],
+    limit: usize,
+    size: usize,
+    input: &[u8],
+    store: &mut [u8],
+) -> Filled
     requires { ⌜ allowed limit ≡ true ⌝ }
     requires { ⌜ Complete size (now input) ⌝ }
-    ensures answer { λ r. ⌜ avps.answerOf r ≡ avpAlone (dictionary reading) limit (capacity (length (now (store .entry)))) (now (input .entry)) ⌝ }
-    ensures store { λ r. ⌜ now (store .exit) ≡ stored (avps.answerOf r) (aloneRecords (dictionary reading) (now (input .entry))) (now (store .entry)) ⌝ }
+    ensures answer { λ r. ⌜ avps.answerOf r ≡ avpAlone (dictionaryBy d (now (kinds .entry))) limit (capacity (length (now (store .entry)))) (now (input .entry)) ⌝ }
+    ensures store { λ r. ⌜ now (store .exit) ≡ stored (avps.answerOf r) (aloneRecords (dictionaryBy d (now (kinds .entry))) (now (input .entry))) (now (store .entry)) ⌝ }
 {
-    avps::parse_avps(reading, limit, &input[..size], 0, store)
+    avps::parse_avps(d, kinds, limit, &input[..size], 0, store)
 }
 
 /// Decodes the one AVP at the front of `input`, at depth 1, into records in `store`. Accepted, its length is its padded size.
@@ -102,7 +116,10 @@ pub fn parse_avp(reading: Reading, limit: usize, input: &[u8], store: &mut [u8])
         return Filled::Refused(Refusal::BadDepth);
     }
     match front::parse(input) {
-        ParsedAvp::Accepted(a) => parse_one(reading, limit, a.size, input, store),
+        ParsedAvp::Accepted(a) => {
+            let kinds = attribute::kind_table(reading);
+            parse_one(reading.dictionary(), &kinds, limit, a.size, input, store)
+        }
         ParsedAvp::Refused(why) => Filled::Refused(why),
     }
 }

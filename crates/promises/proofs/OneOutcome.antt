@@ -19,9 +19,9 @@ use Rattle.signed.proofs.signed_enumerated.Reads as signed-enumerated
 use Rattle.signed.proofs.unix_seconds.Reads as unix-seconds
 use Rattle.attribute.proofs.Attribute.new.Reads as attribute-new
 use Rattle.attribute.proofs.Attribute.read.Reads as attribute-read
+use Rattle.attribute.proofs.Reading.dictionary.Reads as reading-dictionary
 use Rattle.attribute.proofs.kind_table.Reads as kind-table
 use Rattle.attribute.proofs.kind.Reads as kind
-use Rattle.attribute.proofs.is_grouped.Reads as is-grouped
 use Rattle.octets.proofs.at_hand.length.Reads as length
 use Rattle.header.proofs.Header.is_request.Reads as is-request
 use Rattle.header.proofs.Header.is_proxiable.Reads as is-proxiable
@@ -136,14 +136,14 @@ attribute-new-one κs a r r′ s p q = p ∙ sym q
 attribute-read-one : Single attribute-read.Post
 attribute-read-one κs a r r′ s p q = p ∙ sym q
 
+reading-dictionary-one : Single reading-dictionary.Post
+reading-dictionary-one κs a r r′ s p q = p ∙ sym q
+
 kind-table-one : Single kind-table.Post
 kind-table-one κs a r r′ s p q = p ∙ sym q
 
 kind-one : Single kind.Post
 kind-one κs a r r′ s p q = p ∙ sym q
-
-is-grouped-one : Single is-grouped.Post
-is-grouped-one κs a r r′ s p q = p ∙ sym q
 
 -- ---- header
 
@@ -240,10 +240,10 @@ allowed-one κs a r r′ s p q = p ∙ sym q
 count-run-one : Single count-run.Post
 count-run-one κs a r r′ s p q = count-answers.answer-of-injective r r′ (p ∙ sym q)
 
--- ---- avps: the store, the fifth parameter, is told too
+-- ---- avps: the store, the sixth parameter, is told too
 
 parse-avps-one : (κs : _) (a : _) (r r′ : _) (s s′ : _) → parse-avps.Post κs a r s → parse-avps.Post κs a r′ s′
-    → (r ≡ r′) × (now (s .1 .1 .1 .1 .0) ≡ now (s′ .1 .1 .1 .1 .0))
+    → (r ≡ r′) × (now (s .1 .1 .1 .1 .1 .0) ≡ now (s′ .1 .1 .1 .1 .1 .0))
 parse-avps-one κs a r r′ s s′ p q =
     let e = avps-answers.answer-of-injective r r′ (p .0 ∙ sym (q .0)) in
     let at-exit = p .1 in

@@ -14,7 +14,8 @@ use Rattle.octets.proofs.Runs.{false-true}
 use Rattle.rfc6733.specs.Value.{oneOf}
 use Rattle.record.specs.Kinds.{unhandled, time}
 use Rattle.rfc6733.proofs.Listed.{one-of-append, Unlisted, unlisted}
-use Rattle.value.specs.Values.{kinds32, kinds64, known}
+use Rattle.attribute.specs.ByTable.{known}
+use Rattle.value.specs.Values.{kinds32, kinds64}
 
 -- ---- one of several numbers
 

@@ -1,15 +1,14 @@
--- What data are in a reading: a value of the code as one of the definition.
+-- What data are by a dictionary: a value of the code as one of the definition.
 -- Assumes nothing: these are definitions.
 use Prim.Native.Nat.{ℕ}
 use mathlib.Core.Path.{_≡_}
 use mathlib.Core.Bool.{cond}
 use mathlib.Core.List.{List, [], _∷_}
 use lib.ListN.{length}
-use lib.Dec.{leb, ltb, eqb}
+use lib.Dec.{ltb, eqb}
 use Rattle.flags.specs.Flags.{dataValue}
 use Rattle.record.specs.Kinds as kinds
 use Rattle.rfc6733.specs.Value as rfc
-use Rattle.rfc6733.specs.Dictionary.{Dictionary}
 use Rattle.rfc6733.specs.Records.{tiling}
 use Rattle.value.specs.declared.Value.{Value}
 use Rattle.value.specs.declared.Value.the-variants.{Unhandled, OctetString, Integer32, Integer64, Unsigned32, Unsigned64, Float32, Float64, Grouped, Enumerated, UTF8String, DiameterIdentity, DiameterURI, Address, Time}
@@ -79,13 +78,9 @@ pub record Shows (v : rfc.Value) (s : List ℕ) (r : Read) : Type 0 where
   pub value : readAs r ≡ v
   pub address : (a : IpAddr) → r .value ≡ Address a → a ≡ addressOf s (v .number)
 
--- a number that is no kind counts as Unhandled
-abbrev pub known : ℕ → ℕ
-known k = cond (leb k kinds.time) k kinds.unhandled
-
--- data as the kind k. Of a group it is only asked whether its members tile: their flags are their own
-unfoldable pub newValue : Dictionary → ℕ → List ℕ → rfc.Value
-newValue D k s =
+-- data as the kind k, an Address as a dictionary has it. Of a group it is only asked whether its members tile: their flags are their own
+unfoldable pub newValue : (List ℕ → rfc.Value) → ℕ → List ℕ → rfc.Value
+newValue asAddress k s =
     cond (eqb k kinds.grouped)
     (cond (tiling s) (rfc.value kinds.grouped 0 0) (rfc.value kinds.unhandled dataValue 0))
-    (rfc.dataAs (D .asAddress) k s)
+    (rfc.dataAs asAddress k s)

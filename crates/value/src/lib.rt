@@ -1,6 +1,5 @@
-// What an AVP's data are: a typed value with its error flags, in both readings.
+// What an AVP's data are: a typed value with its error flags.
 // This crate knows the data of one AVP, and nothing of records or of nesting.
-use attribute::Reading;
 use flags::ErrorFlags;
 use record::kinds::ADDRESS;
 use record::kinds::DIAMETER_IDENTITY;
@@ -22,8 +21,8 @@ ghost use mathlib.Core.Bool.{true, cond};
 ghost use Rattle.rfc6733.specs.Dictionary.{bareAddress, familyAddress};
 ghost use Rattle.rfc6733.specs.Value.{oneOf, fixed};
 ghost use Rattle.flags.specs.Flags.{dataValue};
-ghost use Rattle.attribute.specs.Attributes.{dictionary};
-ghost use Rattle.value.specs.Values.{kindOf, addressNumber, numberOf, readAs, kinds32, kinds64, Shows, known, newValue};
+ghost use Rattle.attribute.specs.ByTable.{known, addressBy};
+ghost use Rattle.value.specs.Values.{kindOf, addressNumber, numberOf, readAs, kinds32, kinds64, Shows, newValue};
 
 /// AVP Data Format as specified in RFC 6733, section 4.2. Data that are no number stay in the input;
 /// a number is held as its bits, whatever its sign or form.
@@ -62,7 +61,7 @@ impl IpAddr {
 
     const V6_SIZE: usize = 16;
 
-    // Address families (IANA, "Address Family Numbers"), which stand before the address in the RFC reading.
+    // Address families (IANA, "Address Family Numbers"), which stand before the address where it has one.
     const FAMILY_SIZE: usize = 2;
 
     const V4_FAMILY: u32 = 1;
@@ -147,7 +146,7 @@ impl Read {
         }
     }
 
-    // An Address of the sawp reading: the address alone.
+    // An Address that is the address alone.
     fn bare_address(data: &[u8]) -> Read
         ensures { λ r. ⌜ Shows (bareAddress (now («data» .entry))) (now («data» .entry)) r ⌝ }
     {
@@ -162,7 +161,7 @@ impl Read {
         Read::unhandled(ErrorFlags::DataLength as u8)
     }
 
-    // An Address of the RFC reading: a family, then the address (RFC 6733, section 4.3.1).
+    // An Address that is a family, then the address (RFC 6733, section 4.3.1).
     fn family_address(data: &[u8]) -> Read
         ensures { λ r. ⌜ Shows (familyAddress (now («data» .entry))) (now («data» .entry)) r ⌝ }
     {
@@ -220,9 +219,9 @@ impl Value {
         }
     }
 
-    /// The value of an AVP's data by its kind. A number that is no kind is Unhandled.
-    pub fn new(reading: Reading, kind: u8, data: &[u8]) -> Read
-        ensures { λ r. ⌜ Shows (newValue (dictionary reading) (known kind) (now («data» .entry))) (now («data» .entry)) r ⌝ }
+    /// The value of an AVP's data by its kind. A number that is no kind is Unhandled. An Address starts with its family, or not.
+    pub fn new(families: bool, kind: u8, data: &[u8]) -> Read
+        ensures { λ r. ⌜ Shows (newValue (addressBy families) (known kind) (now («data» .entry))) (now («data» .entry)) r ⌝ }
     {
         match kind {
             OCTET_STRING => Read::good(Value::OctetString),
@@ -232,10 +231,13 @@ impl Value {
             UTF8_STRING => Read::tested(rfc3629::is_utf8(data), Value::UTF8String),
             DIAMETER_IDENTITY => Read::tested(rfc3629::is_utf8(data), Value::DiameterIdentity),
             DIAMETER_URI => Read::tested(rfc3629::is_utf8(data), Value::DiameterURI),
-            ADDRESS => match reading {
-                Reading::Sawp => Read::bare_address(data),
-                Reading::Rfc => Read::family_address(data),
-            },
+            ADDRESS => {
+                if families {
+                    Read::family_address(data)
+                } else {
+                    Read::bare_address(data)
+                }
+            }
             _ => Read::unhandled(0),
         }
     }

@@ -3,6 +3,7 @@ use crate::names;
 use crate::print;
 use attribute::Attribute;
 use attribute::Reading;
+use record::kinds::GROUPED;
 
 // One more than the tables have.
 const CODES: u32 = 513;
@@ -23,10 +24,13 @@ fn read(reading: Reading, kinds: &[u8], code: u32) {
     print::number(a.raw as u64);
     let named = a.code;
     names::name(named);
-    print::number(attribute::kind(reading, kinds, code, 0) as u64);
-    print::number(attribute::kind(reading, kinds, code, VENDOR) as u64);
-    print::bit(attribute::is_grouped(reading, code, 0));
-    print::bit(attribute::is_grouped(reading, code, VENDOR));
+    let d = reading.dictionary();
+    let kind = attribute::kind(d, kinds, code, 0);
+    let of_vendor = attribute::kind(d, kinds, code, VENDOR);
+    print::number(kind as u64);
+    print::number(of_vendor as u64);
+    print::bit(kind == GROUPED);
+    print::bit(of_vendor == GROUPED);
     print::end();
 }
 

@@ -1,4 +1,4 @@
--- `fill_store` meets its contract: the run is read with the table of its reading, and what its records leave of the store is cleared.
+-- `fill_store` meets its contract: the run is read, and what its records leave of the store is cleared.
 -- Assumes nothing.
 use native.Mathlib.Omega.{arith}
 use denote.Ref.{now}
@@ -6,7 +6,7 @@ use borrow.Author.Needs.{needs}
 use Rattle.octets.specs.Run.{tree}
 use Rattle.record.specs.Record.{laid}
 use Rattle.rfc6733.specs.Records.{avps, records}
-use Rattle.attribute.specs.Attributes.{dictionary}
+use Rattle.attribute.specs.ByTable.{dictionaryBy}
 use Rattle.avps.proofs.Filling.{records-length}
 use Rattle.avps.proofs.Clearing.{cleared}
 use Rattle.avps.proofs.fill_store.Statement.{statement}
@@ -15,8 +15,8 @@ use Rattle.avps.proofs.fill_store.Tie as tie
 returns : tie.Need-returns
 returns c =
     let read = c .before .before .before .before .before .before in
-    let b = read .before .before .before .before .before .before in
-    let D = dictionary (b .args .reading) in
+    let b = read .before .before .before .before .before in
+    let D = dictionaryBy (b .args .d) (now (b .args .kinds)) in
     let t = tree (avps D) (now (b .args .s)) in
     let w = read .read-run .ensures in
     let size = records-length D (b .args .place) 1 t in
@@ -31,8 +31,6 @@ pub fill-store-spec : {M : Type 1} → statement M
 fill-store-spec =
     tie.close
     (tie.spec
-    (λ c κs. tt)
-    (λ c. search needs)
     (λ c κs. search needs)
     (λ c. search needs)
     (λ c. search needs)

@@ -11,7 +11,7 @@ use Rattle.octets.specs.Run.{Tree, tree}
 use Rattle.rfc6733.specs.Records.{avps}
 use Rattle.record.specs.Store.{stored}
 use Rattle.rfc6733.proofs.Decoded.{allowed-most}
-use Rattle.attribute.specs.Attributes.{dictionary}
+use Rattle.attribute.specs.ByTable.{dictionaryBy}
 use Rattle.count.specs.Counts as counted
 use Rattle.count.proofs.Counts.{Fitting, was-fitting}
 use Rattle.avps.specs.Answers.{lastPlace, answerOf}
@@ -20,10 +20,10 @@ use Rattle.avps.proofs.parse_avps.Statement.{statement}
 use Rattle.avps.proofs.parse_avps.Tie as tie
 
 abbrev start : tie.Else1 → tie.Start
-start c = c .before .before .before
+start c = c .before .before .before .before
 
 abbrev run : tie.Start → Tree
-run b = tree (avps (dictionary (b .args .reading))) (now (b .args .s))
+run b = tree (avps (dictionaryBy (b .args .d) (now (b .args .kinds)))) (now (b .args .s))
 
 -- the places fit
 near : (c : tie.Else1) → let b = start c in b .args .place + length (now (b .args .s)) ≤ lastPlace

@@ -10,9 +10,7 @@ use mathlib.Core.Logic.{⊎-elim}
 use native.Mathlib.Omega.{arith}
 use lib.ListN.{length, drop, length-drop, drop-of-length-le}
 use denote.Ref.{now}
-use lib.Dec.{eqb}
 use borrow.Author.Needs.{needs}
-use borrow.Author.Tests.{eqb-true, eqb-false, not-true, not-false}
 use borrow.Fn.Kinds.{In}
 use borrow.Fn.PlainCycle.{Measures, is, falls, and}
 use Rattle.octets.specs.Run.{Tree, done, broken, tree, tried}
@@ -20,15 +18,16 @@ use Rattle.octets.proofs.Runs.{tree-none, tree-broken}
 use Rattle.rfc6733.specs.Avp.{payload}
 use Rattle.record.specs.Kinds.{grouped}
 use Rattle.rfc6733.specs.Records.{avpKind, avps}
+use Rattle.rfc6733.specs.Dictionary.{Dictionary}
 use Rattle.rfc6733.proofs.Items.{sound}
 use Rattle.rfc6733.proofs.Alone.{some-tried}
-use Rattle.attribute.specs.Attributes.{dictionary}
+use Rattle.attribute.specs.ByTable.{dictionaryBy}
 use Rattle.front.proofs.Fronts.{Turn, turn, stuck, here}
 use Rattle.count.specs.declared.Level.the-variants.{Counts}
 use Rattle.count.specs.Counts.{levelOf}
 use Rattle.count.proofs.Levels.{Known, was-deep, was-counts, within, Passed, none-passed, one-passed, then-deep, then-ends, one-plain, one-deep, one-group}
 use Rattle.count.proofs.Lent.{Own, own, Inside, inside}
-use Rattle.attribute.proofs.is_grouped.Reads as is-grouped-reads
+use Rattle.attribute.proofs.kind.Reads as kind-reads
 use Rattle.front.proofs.first_avp.Reads as complete-reads
 use Rattle.avp.proofs.AVP.header_size.Reads as header-size-reads
 use Rattle.count.proofs.count_avp.Reads as count-avp
@@ -40,28 +39,28 @@ use Rattle.count.proofs.+count_avp+count_level.Lts-count_level as count
 use Rattle.count.proofs.+count_avp+count_level.{statement}
 use Rattle.count.proofs.+count_avp+count_level.Tie.{close}
 
-abbrev μ-count-avp : Measures 1 count-avp-kinds.ps ℕ
-μ-count-avp κs a = 2 * a .1 .1 .1 .0
+abbrev μ-count-avp : Measures 2 count-avp-kinds.ps ℕ
+μ-count-avp κs a = 2 * a .1 .1 .1 .1 .0
 
-abbrev μ-count-level : Measures 1 count-level-kinds.ps ℕ
-μ-count-level κs a = 2 * a .1 .1 .0 + 1
+abbrev μ-count-level : Measures 2 count-level-kinds.ps ℕ
+μ-count-level κs a = 2 * a .1 .1 .1 .0 + 1
 
-abbrev count-avp-at : ℕ → In 1 count-avp-kinds.ps
-count-avp-at t = and 1 count-avp-kinds.ps (is 1 count-avp-kinds.ps μ-count-avp t) count-avp.Pre
+abbrev count-avp-at : ℕ → In 2 count-avp-kinds.ps
+count-avp-at t = and 2 count-avp-kinds.ps (is 2 count-avp-kinds.ps μ-count-avp t) count-avp.Pre
 
-abbrev count-avp-below : ℕ → In 1 count-avp-kinds.ps
-count-avp-below t = and 1 count-avp-kinds.ps (falls 1 count-avp-kinds.ps _<_ μ-count-avp t) count-avp.Pre
+abbrev count-avp-below : ℕ → In 2 count-avp-kinds.ps
+count-avp-below t = and 2 count-avp-kinds.ps (falls 2 count-avp-kinds.ps _<_ μ-count-avp t) count-avp.Pre
 
-abbrev count-level-at : ℕ → In 1 count-level-kinds.ps
-count-level-at t = and 1 count-level-kinds.ps (is 1 count-level-kinds.ps μ-count-level t) count-level.Pre
+abbrev count-level-at : ℕ → In 2 count-level-kinds.ps
+count-level-at t = and 2 count-level-kinds.ps (is 2 count-level-kinds.ps μ-count-level t) count-level.Pre
 
-abbrev count-level-below : ℕ → In 1 count-level-kinds.ps
-count-level-below t = and 1 count-level-kinds.ps (falls 1 count-level-kinds.ps _<_ μ-count-level t) count-level.Pre
+abbrev count-level-below : ℕ → In 2 count-level-kinds.ps
+count-level-below t = and 2 count-level-kinds.ps (falls 2 count-level-kinds.ps _<_ μ-count-level t) count-level.Pre
 
 -- ---- `count_avp`
 
 abbrev count-avp-calls : ℕ → count-avp-lts.Claims
-count-avp-calls t = (is-grouped-reads.Asked, is-grouped-reads.Learnt, header-size-reads.Asked, header-size-reads.Learnt, count-level-below t, count-level.Post)
+count-avp-calls t = (kind-reads.Asked, kind-reads.Learnt, header-size-reads.Asked, header-size-reads.Learnt, count-level-below t, count-level.Post)
 
 module _ (t : ℕ) where
   -- the function's entry, and a group entered
@@ -72,26 +71,29 @@ module _ (t : ℕ) where
   Group = count-avp-lts.Else1 (count-avp-calls t) (count-avp-at t) count-avp.Post
 
   abbrev entry : Group → Entry
-  entry e = e .before .before .before
+  entry e = e .before .before .before .before
 
-  -- the AVP's bytes, and the trees of it and of its payload
+  -- the dictionary, the AVP's bytes, and the trees of it and of its payload
+  abbrev dictionary : Entry → Dictionary
+  dictionary b = dictionaryBy (b .args .d) (now (b .args .kinds))
+
   abbrev bytes : Entry → List ℕ
   bytes b = now (b .args .s)
 
   abbrev one : Entry → Tree
-  one b = tree (avps (dictionary (b .args .reading))) (bytes b)
+  one b = tree (avps (dictionary b)) (bytes b)
 
   abbrev inner : Entry → Tree
-  inner b = tree (avps (dictionary (b .args .reading))) (payload (bytes b))
+  inner b = tree (avps (dictionary b)) (payload (bytes b))
 
-  -- it is a group by the dictionary
-  told : (c : count-avp-lts.After-is-grouped (count-avp-calls t) (count-avp-at t) count-avp.Post)
-      → let b = c .before .before in c .is-grouped .result ≡ eqb (avpKind (dictionary (b .args .reading)) (bytes b)) grouped
+  -- its kind is the dictionary's
+  told : (c : count-avp-lts.After-kind (count-avp-calls t) (count-avp-at t) count-avp.Post)
+      → let b = c .before .before .before in c .kind .result ≡ avpKind (dictionary b) (bytes b)
   unfolding avpKind
-  told c = let h = here _ _ (c .before .before .pre .1 .0) in rw (h .code-is, h .vendor-is) at (c .is-grouped .ensures)
+  told c = let h = here _ _ (c .before .before .before .pre .1 .0) in rw (h .code-is, h .vendor-is) at (c .kind .ensures)
 
-  is-grouped : (e : Group) → avpKind (dictionary (entry e .args .reading)) (bytes (entry e)) ≡ grouped
-  is-grouped e = eqb-true _ _ (sym (told (e .before)) ∙ not-false _ (e .if1 .left))
+  is-grouped : (e : Group) → avpKind (dictionary (entry e)) (bytes (entry e)) ≡ grouped
+  is-grouped e = sym (told (e .before)) ∙ e .if1 .left
 
   -- its payload is lent, and counted
   payload-lent : (c : count-avp-lts.After-header-size (count-avp-calls t) (count-avp-at t) count-avp.Post)
@@ -125,12 +127,12 @@ module _ (t : ℕ) where
   sums-fit c =
       let b = entry (c .before .before .before .before .before .before .before) in
       let k = was-counts _ _ _ _ _ (with-members c) in
-      omega (arith, within (dictionary (b .args .reading)) (bytes b), b .good .1 .0 .0)
+      omega (arith, within (dictionary b) (bytes b), b .good .1 .1 .0 .0)
 
   count-avp-returns : count-avp-lts.Need-returns (count-avp-calls t) (count-avp-at t) count-avp.Post
   count-avp-returns c =
-      one-plain _ _ (c .before .before .before .pre .1 .1) _ (omega arith)
-      (eqb-false _ _ (sym (told (c .before)) ∙ not-true _ (c .if1 .taken)))
+      one-plain _ _ (c .before .before .before .before .pre .1 .1) _ (omega arith)
+      (λ e. c .if1 .taken (told (c .before) ∙ e))
 
   count-avp-returns-2 : count-avp-lts.Need-returns-2 (count-avp-calls t) (count-avp-at t) count-avp.Post
   count-avp-returns-2 c =
@@ -144,11 +146,12 @@ abbrev count-level-calls : ℕ → count-level-lts.Claims
 count-level-calls t = (complete-reads.Asked, complete-reads.Learnt, count-avp-below t, count-avp.Post)
 
 abbrev count-level-Inv-loop : count-level-lts.InvT-loop
-count-level-Inv-loop reading s left records₀ tried₀ at₀ records tried at =
-    (at ≤ length s) × Passed left (tree (avps (dictionary reading)) s) (tree (avps (dictionary reading)) (drop at s)) records tried
+count-level-Inv-loop d kinds s left records₀ tried₀ at₀ records tried at =
+    let D = dictionaryBy d kinds in
+    (at ≤ length s) × Passed left (tree (avps D) s) (tree (avps D) (drop at s)) records tried
 
 abbrev count-level-μ-loop : count-level-lts.MeasureT-loop
-count-level-μ-loop reading s left records₀ tried₀ at₀ records tried at = length s - at
+count-level-μ-loop d kinds s left records₀ tried₀ at₀ records tried at = length s - at
 
 module _ (t : ℕ) where
   -- the head of the loop, and an AVP found there
@@ -161,16 +164,22 @@ module _ (t : ℕ) where
   abbrev loop : Found → Loop
   loop c = c .before .before .before .before .before .before .before .before
 
-  -- the run's bytes, and its tree from a place on
+  abbrev start : Loop → count-level-lts.Start (count-level-calls t) (count-level-at t) count-level.Post count-level-Inv-loop count-level-μ-loop
+  start l = l .before .before .before
+
+  -- the dictionary, the run's bytes, and its tree from a place on
+  abbrev by : Loop → Dictionary
+  by l = let a = start l .args in dictionaryBy (a .d) (now (a .kinds))
+
   abbrev run : Loop → List ℕ
-  run l = now (l .before .before .args .s)
+  run l = now (start l .args .s)
 
   abbrev from : Loop → ℕ → Tree
-  from l at = tree (avps (dictionary (l .before .before .args .reading))) (drop at (run l))
+  from l at = tree (avps (by l)) (drop at (run l))
 
   -- no sum is past the length
-  fits : (l : Loop) {r : Tree} {n k : ℕ} → Passed (l .before .before .args .left) (from l 0) r n k → (n < 2 ^ 64) × (k + tried r < 2 ^ 64)
-  fits l p = let b = l .before .before in omega (arith, within (dictionary (b .args .reading)) (run l), b .good .1 .0 .0)
+  fits : (l : Loop) {r : Tree} {n k : ℕ} → Passed (start l .args .left) (from l 0) r n k → (n < 2 ^ 64) × (k + tried r < 2 ^ 64)
+  fits l p = let b = start l in omega (arith, within (by l) (run l), b .good .1 .1 .0 .0)
 
   some-left : (c : count-level-lts.In-loop (count-level-calls t) (count-level-at t) count-level.Post count-level-Inv-loop count-level-μ-loop)
       → let l = c .before in 0 < length (drop (l .loop .at) (run l))
@@ -190,14 +199,14 @@ module _ (t : ℕ) where
 
   own-lent : (c : Found)
       → let l = loop c in
-      Own (dictionary (l .before .before .args .reading)) (run l) (l .loop .at) (c .before .before .a .given .0 .0)
+      Own (by l) (run l) (l .loop .at) (c .before .before .a .given .0 .0)
   own-lent c = own _ _ _ _ (turned c)
 
   passed : (c : count-level-lts.After-known-told2 (count-level-calls t) (count-level-at t) count-level.Post count-level-Inv-loop count-level-μ-loop)
       → let u = c .before .before .before .before .before in
       let l = loop u in
       let k = c .before .r .given .0 .1 in
-      Passed (l .before .before .args .left) (from l 0) (from l (l .loop .at + u .before .before .a .given .0 .0 .size))
+      Passed (start l .args .left) (from l 0) (from l (l .loop .at + u .before .before .a .given .0 .0 .size))
       (l .loop .records + k .0) (l .loop .tried + k .1 .0)
   passed c =
       let u = c .before .before .before .before .before in
@@ -207,11 +216,11 @@ module _ (t : ℕ) where
   count-level-returns : count-level-lts.Need-returns (count-level-calls t) (count-level-at t) count-level.Post count-level-Inv-loop count-level-μ-loop
   count-level-returns c =
       let l = c .before .before in
-      let d = some-tried (dictionary (l .before .before .args .reading)) (drop (l .loop .at) (run l)) (some-left (c .before)) in
+      let d = some-tried (by l) (drop (l .loop .at) (run l)) (some-left (c .before)) in
       then-deep (l .loop .inv .1) (omega arith)
 
-  count-level-add-t17 : count-level-lts.Need-add-t17 (count-level-calls t) (count-level-at t) count-level.Post count-level-Inv-loop count-level-μ-loop
-  count-level-add-t17 c =
+  count-level-add-t18 : count-level-lts.Need-add-t18 (count-level-calls t) (count-level-at t) count-level.Post count-level-Inv-loop count-level-μ-loop
+  count-level-add-t18 c =
       let l = c .before .before .before .before .before .before in
       omega (arith, ap tried (none-there c), fits l (l .loop .inv .1))
 
@@ -236,7 +245,7 @@ module _ (t : ℕ) where
   count-level-returns-4 : count-level-lts.Need-returns-4 (count-level-calls t) (count-level-at t) count-level.Post count-level-Inv-loop count-level-μ-loop
   count-level-returns-4 c =
       let l = c .before in
-      let F = avps (dictionary (l .before .before .args .reading)) in
+      let F = avps (by l) in
       then-ends (l .loop .inv .1) done (ap (tree F) (drop-of-length-le (run l) (c .loop-test .left)) ∙ tree-none F)
       (omega arith) (omega arith) (omega arith)
 
@@ -279,7 +288,7 @@ pub +count-avp+count-level-spec : {M : Type 1} → statement M
     (λ c κs. search needs)
     (λ c. search needs)
     (λ c. search needs)
-    (count-level-add-t17 t)
+    (count-level-add-t18 t)
     (count-level-returns-2 t)
     (λ c. omega (arith, turned t c))
     (λ c. omega (arith, turned t c))

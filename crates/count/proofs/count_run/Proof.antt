@@ -10,17 +10,17 @@ use Rattle.octets.specs.Run.{Tree, tree, tiles}
 use Rattle.rfc6733.specs.Records.{avps}
 use Rattle.rfc6733.specs.Decoder.{allowed}
 use Rattle.rfc6733.proofs.Tiling.{tiles-any}
-use Rattle.attribute.specs.Attributes.{dictionary}
+use Rattle.attribute.specs.ByTable.{dictionaryBy}
 use Rattle.count.proofs.Levels.{Known, was-deep, was-counts}
 use Rattle.count.proofs.Counts.{not-allowed, not-tiled, too-deep, fits}
 use Rattle.count.proofs.count_run.Statement.{statement}
 use Rattle.count.proofs.count_run.Tie as tie
 
 abbrev run : tie.Start → Tree
-run b = tree (avps (dictionary (b .args .reading))) (now (b .args .s))
+run b = tree (avps (dictionaryBy (b .args .d) (now (b .args .kinds)))) (now (b .args .s))
 
 abbrev entry : tie.After-count-level → tie.Start
-entry c = c .before .before .before .before
+entry c = c .before .before .before .before .before
 
 -- the limit is allowed
 within-limit : (c : tie.After-count-level) → allowed (entry c .args .limit) ≡ true

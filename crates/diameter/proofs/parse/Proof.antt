@@ -13,6 +13,7 @@ use Rattle.rfc6733.specs.Decoder.{allowed, decoded}
 use Rattle.record.specs.Store.{capacity, stored}
 use Rattle.rfc6733.proofs.Decoded.{message-limit-bad, header-refused}
 use Rattle.attribute.specs.Attributes.{dictionary}
+use Rattle.attribute.proofs.Dictionaries.{dictionary-by-table}
 use Rattle.header.specs.Parsed as header
 use Rattle.diameter.specs.Answers.{answerOf}
 use Rattle.diameter.proofs.parse.Statement.{statement}
@@ -36,8 +37,15 @@ returns c = (message-limit-bad _ _ _ _ (sym (c .before .allowed .ensures) ∙ no
 
 parse-body-requires : tie.Need-parse-body-requires
 parse-body-requires c κs =
-    let h = c .before .before in
+    let h = c .before .before .before .before .before in
     (within-limit (h .before .before), record { is = ap header.answerOf (sym (h .header .given .1)) ∙ h .before .before .parse .ensures })
+
+returns-2 : tie.Need-returns-2
+returns-2 c =
+    let answered = c .before .before in
+    let beside = answered .before .before .before in
+    let lent = beside .before in
+    rw (beside .dictionary .ensures, lent .kind-table .ensures, dictionary-by-table _) at (answered .parse-body .ensures)
 
 returns-3 : tie.Need-returns-3
 unfolding answerOf stored header.answerOf
@@ -51,8 +59,11 @@ parse-spec =
     returns
     (λ c κs. tt)
     (λ c. search needs)
+    (λ c κs. tt)
+    (λ c κs. tt)
+    (λ c. search needs)
     parse-body-requires
     (λ c. search needs)
     (λ c. search needs)
-    (λ c. search needs)
+    returns-2
     returns-3)

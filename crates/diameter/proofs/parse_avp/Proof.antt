@@ -13,6 +13,7 @@ use Rattle.rfc6733.specs.Decoder.{allowed, avpAlone}
 use Rattle.record.specs.Store.{capacity, stored}
 use Rattle.rfc6733.proofs.Decoded.{alone-limit-bad, front-refused}
 use Rattle.attribute.specs.Attributes.{dictionary}
+use Rattle.attribute.proofs.Dictionaries.{dictionary-by-table}
 use Rattle.avps.specs.Answers as avps
 use Rattle.front.specs.Front as front
 use Rattle.front.proofs.Fronts.{was-accepted, here}
@@ -38,9 +39,16 @@ returns c = (alone-limit-bad _ _ _ _ (sym (c .before .allowed .ensures) ∙ not-
 
 parse-one-requires : tie.Need-parse-one-requires
 parse-one-requires c κs =
-    let a = c .before .before in
+    let a = c .before .before .before .before .before in
     let w = was-accepted _ _ (ap front.answerOf (sym (a .a .given .1)) ∙ a .before .before .parse .ensures) in
     (within-limit (a .before .before), record { whole = w .0; size-is = here _ _ (w .1) .size-is })
+
+returns-2 : tie.Need-returns-2
+returns-2 c =
+    let answered = c .before .before in
+    let beside = answered .before .before .before in
+    let lent = beside .before in
+    rw (beside .dictionary .ensures, lent .kind-table .ensures, dictionary-by-table _) at (answered .parse-one .ensures)
 
 returns-3 : tie.Need-returns-3
 unfolding avps.answerOf stored front.answerOf
@@ -54,8 +62,11 @@ parse-avp-spec =
     returns
     (λ c κs. tt)
     (λ c. search needs)
+    (λ c κs. tt)
+    (λ c κs. tt)
+    (λ c. search needs)
     parse-one-requires
     (λ c. search needs)
     (λ c. search needs)
-    (λ c. search needs)
+    returns-2
     returns-3)

@@ -27,18 +27,18 @@ abbrev read : tie.After-slice-known2 → tie.After-parse-avps
 read c = c .before .before
 
 abbrev start : tie.After-parse-avps → tie.Start
-start c = c .before .before .before .before .before .before
+start c = c .before .before .before .before .before .before .before
 
 -- ---- the needs
 
 sub-body : tie.Need-sub-body
-sub-body c = let k = headed (c .before .before .before) in omega (arith, k .length-is, k .facts .twenty)
+sub-body c = let k = headed (c .before .before .before .before) in omega (arith, k .length-is, k .facts .twenty)
 
 part-body-start : tie.Need-part-body-start
-part-body-start c = let k = headed (c .before .before .before) in omega (arith, k .length-is, k .facts .twenty)
+part-body-start c = let k = headed (c .before .before .before .before) in omega (arith, k .length-is, k .facts .twenty)
 
 part-body-end : tie.Need-part-body-end
-part-body-end c = let k = headed (c .before .before .before) in omega (arith, k .length-is, k .facts .there)
+part-body-end c = let k = headed (c .before .before .before .before) in omega (arith, k .length-is, k .facts .there)
 
 returns : tie.Need-returns
 returns c =

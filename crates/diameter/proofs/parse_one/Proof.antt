@@ -18,22 +18,22 @@ there : (b : tie.Start) → b .args .size ≤ length (now (b .args .input))
 there b = let w = complete-whole (now (b .args .input)) (b .pre .1 .whole) in omega (arith, w .room, b .pre .1 .size-is)
 
 -- its length has three bytes, and its padding is at most three more
-short : (c : tie.After-shared-slice-known) → c .before .args .size ≤ lastPlace
+short : (c : tie.After-shared-slice-known2) → c .before .before .args .size ≤ lastPlace
 short c =
-    let s = now (c .before .args .input) in
-    let n = be-small 3 s 5 (λ i. omega (arith, c .shared-slice-known .given i)) in
-    omega (arith, sizes s, c .before .pre .1 .size-is)
+    let s = now (c .before .before .args .input) in
+    let n = be-small 3 s 5 (λ i. omega (arith, c .shared-slice-known2 .given i)) in
+    omega (arith, sizes s, c .before .before .pre .1 .size-is)
 
 slice-aggregate-parse-avps : tie.Need-slice-aggregate-parse-avps
 slice-aggregate-parse-avps c =
-    let b = c .before .before .before in
+    let b = c .before .before .before .before in
     let l = length-take (b .args .size) (now (b .args .input)) in
     omega (arith, there b)
 
 returns : tie.Need-returns
 returns c =
     let answered = c .before .before in
-    let b = answered .before .before .before .before .before in
+    let b = answered .before .before .before .before .before .before in
     let p = answered .parse-avps .ensures in
     (p .0 ∙ alone-is _ _ _ (b .pre .1) _ _ (b .pre .0) (short (answered .before .before .before .before)), rw (own-records _ _ _ (b .pre .1)) at (p .1))
 

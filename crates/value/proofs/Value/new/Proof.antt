@@ -4,9 +4,8 @@
 use mathlib.Core.Path.{refl}
 use mathlib.Core.Logic.{inl, inr}
 use borrow.Author.Needs.{needs}
-use Rattle.rfc6733.specs.Dictionary.{sawp, rfc}
 use Rattle.rfc6733.proofs.Listed.{one-of}
-use Rattle.attribute.specs.Attributes.{dictionary}
+use Rattle.attribute.specs.ByTable.{addressBy}
 use Rattle.value.specs.declared.Value.the-variants.{UTF8String, DiameterIdentity, DiameterURI}
 use Rattle.value.specs.Values.{kinds32, kinds64}
 use Rattle.value.proofs.KnownKinds.{none-known}
@@ -48,16 +47,16 @@ returns-7 c =
     (c .before .is-utf83 .ensures)
 
 returns-8 : tie.Need-returns-8
-unfolding dictionary sawp
+unfolding addressBy
 returns-8 c =
-    address-kind _ _ _ _ (c .before .before .before .match .keys8)
-    (rw (c .before .enum-told .given .1) (c .bare-address .ensures))
+    address-kind _ _ _ _ (c .before .before .match .keys8)
+    (rw (c .before .if1 .taken) (c .family-address .ensures))
 
 returns-9 : tie.Need-returns-9
-unfolding dictionary rfc
+unfolding addressBy
 returns-9 c =
-    address-kind _ _ _ _ (c .before .before .before .match .keys8)
-    (rw (c .before .enum-told2 .given .1) (c .family-address .ensures))
+    address-kind _ _ _ _ (c .before .before .match .keys8)
+    (rw (c .before .if1 .left) (c .bare-address .ensures))
 
 returns-10 : tie.Need-returns-10
 returns-10 c =
@@ -89,9 +88,7 @@ new-spec =
     (λ c κs. search needs)
     (λ c κs. search needs)
     (λ c κs. search needs)
-    (λ c. search needs)
     (λ c κs. search needs)
-    (λ c. search needs)
     (λ c κs. search needs)
     (λ c κs. search needs)
     returns

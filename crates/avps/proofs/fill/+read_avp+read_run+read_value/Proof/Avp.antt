@@ -7,7 +7,7 @@ use denote.Ref.{now}
 use Rattle.octets.proofs.Numbers.{be-small}
 use Rattle.record.specs.Record.{recordSize}
 use Rattle.rfc6733.specs.Entered.{entered}
-use Rattle.attribute.specs.Attributes.{dictionary}
+use Rattle.attribute.specs.ByTable.{dictionaryBy}
 use Rattle.avps.specs.Fill.{Room}
 use Rattle.avps.proofs.OwnRecord.{lentData, Opened, opened, room-for-own, level-for-own, room-for-members, avp-written}
 use Rattle.avp.proofs.AVP.header_size.Reads as header-size
@@ -58,11 +58,11 @@ module _ (t : ℕ) where
   -- there is room for its own record
   avp-room : (c : avp.After-header-size (avp-calls t) (avp-at t) avp-reads.Post)
       → recordSize ≤ length (now (avp-start c .args .store))
-  avp-room c = let b = avp-start c in room-for-own _ (avp-opened c) (b .pre .1 .0 .1) (b .pre .1 .1 .0)
+  avp-room c = let b = avp-start c in room-for-own _ (avp-opened c) (b .pre .1 .0 .1) (b .pre .1 .1)
 
   -- its header takes a level
   avp-level : (c : avp.After-header-size (avp-calls t) (avp-at t) avp-reads.Post) → 0 < avp-start c .args .left
-  avp-level c = let b = avp-start c in level-for-own _ (avp-opened c) (b .pre .1 .0 .1) (b .pre .1 .1 .0)
+  avp-level c = let b = avp-start c in level-for-own _ (avp-opened c) (b .pre .1 .0 .1) (b .pre .1 .1)
 
   -- and there is room for its members', whose places and depths fit too
   avp-inside : (c : avp.After-header-size (avp-calls t) (avp-at t) avp-reads.Post)
@@ -71,9 +71,9 @@ module _ (t : ℕ) where
       let from = c .header-size .result in
       let body = lentData (now (b .args .s)) a from in
       let store = now (b .args .store) in
-      Room (entered (dictionary (b .args .reading)) (a .code) (a .«vendor_id») body) (b .args .place + from) (length body) (b .args .left - 1)
+      Room (entered (dictionaryBy (b .args .d) (now (b .args .kinds))) (a .code) (a .«vendor_id») body) (b .args .place + from) (length body) (b .args .left - 1)
       (length (take (length store - recordSize) (drop recordSize store)))
-  avp-inside c = let b = avp-start c in room-for-members _ (avp-opened c) (b .pre .1 .0 .1) (now (b .args .store)) (b .pre .1 .1 .0)
+  avp-inside c = let b = avp-start c in room-for-members _ (avp-opened c) (b .pre .1 .0 .1) (now (b .args .store)) (b .pre .1 .1)
 
   -- ---- its needs
 
@@ -96,7 +96,7 @@ module _ (t : ℕ) where
   part-read-value-start-2 c = omega (arith, avp-room (c .before))
 
   pub read-value-requires : avp.Need-read-value-requires (avp-calls t) (avp-at t) avp-reads.Post
-  read-value-requires c κs = let h = c .before .before in (omega (arith, avp-start h .pre), (avp-level h, (avp-inside h, avp-start h .pre .1 .1 .1)))
+  read-value-requires c κs = let h = c .before .before in (omega (arith, avp-start h .pre), (avp-level h, avp-inside h))
 
   pub sub-pads : avp.Need-sub-pads (avp-calls t) (avp-at t) avp-reads.Post
   sub-pads c = omega (arith, avp-opened (avp-from-pads c))
@@ -120,7 +120,7 @@ module _ (t : ℕ) where
   cast-t28 c = omega (arith, avp-inside (avp-from-join c))
 
   pub sub-t14 : avp.Need-sub-t14 (avp-calls t) (avp-at t) avp-reads.Post
-  sub-t14 c = omega (arith, avp-start (avp-from-join c) .pre .1 .1 .0)
+  sub-t14 c = omega (arith, avp-start (avp-from-join c) .pre .1 .1)
 
   pub cast-t25 : avp.Need-cast-t25 (avp-calls t) (avp-at t) avp-reads.Post
   cast-t25 c = omega arith
@@ -138,8 +138,8 @@ module _ (t : ℕ) where
       let p = o .before in
       let h = avp-from-join j in
       let b = avp-start h in
-      avp-written _ (avp-opened h) (b .pre .1 .0 .1) (b .pre .1 .1 .0) (p .before .before .before .before .read-value .ensures) (p .pads .ensures)
+      avp-written _ (avp-opened h) (b .pre .1 .0 .1) (b .pre .1 .1) (p .before .before .before .before .read-value .ensures) (p .pads .ensures)
       (o .own-errors .ensures) (j .join .ensures) (c .before .before .before .put .ensures .1)
 
   pub add-t19-2 : avp.Need-add-t19-2 (avp-calls t) (avp-at t) avp-reads.Post
-  add-t19-2 c = let b = avp-start (avp-from-join (avp-end-join c)) in omega (arith, returns c .count-is, b .pre .1 .1 .0, b .good)
+  add-t19-2 c = let b = avp-start (avp-from-join (avp-end-join c)) in omega (arith, returns c .count-is, b .pre .1 .1, b .good)

@@ -10,7 +10,7 @@ use Rattle.octets.specs.Run.{tree}
 use Rattle.flags.specs.Flags.{join}
 use Rattle.record.specs.Record.{recordSize}
 use Rattle.rfc6733.specs.Records.{avps}
-use Rattle.attribute.specs.Attributes.{dictionary}
+use Rattle.attribute.specs.ByTable.{dictionaryBy}
 use Rattle.front.proofs.Fronts.{Turn, turn, stuck}
 use Rattle.avps.specs.Fill.{depthAt}
 use Rattle.avps.proofs.OwnBytes.{OwnBytes, own-bytes}
@@ -26,12 +26,12 @@ abbrev pub run-calls : ℕ → run.Claims
 run-calls t = (complete.Asked, complete.Learnt, avp-below t, avp-reads.Post, join-flags.Asked, join-flags.Learnt)
 
 abbrev pub Inv-loop : run.InvT-loop
-Inv-loop reading kinds s place left store₀ at₀ n₀ errors₀ store at n errors =
-    let D = dictionary reading in
+Inv-loop d kinds s place left store₀ at₀ n₀ errors₀ store at n errors =
+    let D = dictionaryBy d kinds in
     (at ≤ length s) × Filling D (tree (avps D) s) (tree (avps D) (drop at s)) place (place + at) (depthAt left) n errors store₀ store
 
 abbrev pub μ-loop : run.MeasureT-loop
-μ-loop reading kinds s place left store₀ at₀ n₀ errors₀ store at n errors = length s - at
+μ-loop d kinds s place left store₀ at₀ n₀ errors₀ store at n errors = length s - at
 
 module _ (t : ℕ) where
   -- the loop, from a turn of it; and the entry
@@ -52,20 +52,20 @@ module _ (t : ℕ) where
       → let b = run-start (run-loop c) in
       let at = run-loop c .loop .at in
       let a = c .before .before .a .given .0 .0 in
-      OwnBytes (dictionary (b .args .reading)) (now (b .args .s)) at a (take (at + a .size - at) (drop at (now (b .args .s))))
+      OwnBytes (dictionaryBy (b .args .d) (now (b .args .kinds))) (now (b .args .s)) at a (take (at + a .size - at) (drop at (now (b .args .s))))
   run-own c = own-bytes _ (run-turn c)
 
   -- the records so far are within the store
   run-within : (c : run.At-loop (run-calls t) (run-at t) run-reads.Post Inv-loop μ-loop)
       → c .loop .n * recordSize ≤ length (c .loop .store)
-  run-within c = omega (arith, run-start c .pre .1 .1 .0, c .loop .inv .1)
+  run-within c = omega (arith, run-start c .pre .1 .1, c .loop .inv .1)
 
   -- what has been written, with the AVP at `at`
   run-filled : (c : run.After-read-avp (run-calls t) (run-at t) run-reads.Post Inv-loop μ-loop)
       → let k = c .before .before .before in
       let l = run-loop k in
       let b = run-start l in
-      let D = dictionary (b .args .reading) in
+      let D = dictionaryBy (b .args .d) (now (b .args .kinds)) in
       let next = l .loop .at + k .before .before .a .given .0 .0 .size in
       let size = l .loop .n * recordSize in
       let one = c .read-avp .result in
@@ -75,7 +75,7 @@ module _ (t : ℕ) where
   run-filled c =
       let k = c .before .before .before in
       let l = run-loop k in
-      one-filled (run-start l .pre .1 .1 .0) (l .loop .inv .1) (run-own k) (c .read-avp .ensures)
+      one-filled (run-start l .pre .1 .1) (l .loop .inv .1) (run-own k) (c .read-avp .ensures)
 
   -- ---- its needs
 
@@ -99,7 +99,7 @@ module _ (t : ℕ) where
   part-read-avp-end c = omega (arith, run-turn c)
 
   pub add-read-avp : run.Need-add-read-avp (run-calls t) (run-at t) run-reads.Post Inv-loop μ-loop
-  add-read-avp c = omega (arith, run-start (run-loop (c .before)) .pre .1 .1 .0)
+  add-read-avp c = omega (arith, run-start (run-loop (c .before)) .pre .1 .1)
 
   pub mul-read-avp : run.Need-mul-read-avp (run-calls t) (run-at t) run-reads.Post Inv-loop μ-loop
   mul-read-avp c = omega (arith, run-within (run-loop (c .before)))
@@ -116,12 +116,12 @@ module _ (t : ℕ) where
       let l = run-loop k in
       let b = run-start l in
       let o = run-own k in
-      (omega (arith, b .pre), ((o .is, o .exact), (room-for-one (b .pre .1 .1 .0) (l .loop .inv .1) o (run-turn k .fits), b .pre .1 .1 .1)))
+      (omega (arith, b .pre), ((o .is, o .exact), room-for-one (b .pre .1 .1) (l .loop .inv .1) o (run-turn k .fits)))
 
   pub add-n : run.Need-add-n (run-calls t) (run-at t) run-reads.Post Inv-loop μ-loop
   add-n c =
       let b = run-start (run-loop (c .before .before .before .before .before .before)) in
-      omega (arith, run-filled (c .before .before .before), b .pre .1 .1 .0, b .good)
+      omega (arith, run-filled (c .before .before .before), b .pre .1 .1, b .good)
 
   pub loop-less : run.Need-loop-less (run-calls t) (run-at t) run-reads.Post Inv-loop μ-loop
   loop-less c = omega (arith, run-turn (c .before .before .before .before .before .before .before))

@@ -4,10 +4,12 @@ use Prim.Native.Nat.{ℕ}
 use mathlib.Core.Path.{sym, _∙_}
 use native.Mathlib.Omega.{arith}
 use denote.Ref.{now}
-use Rattle.attribute.specs.Attributes.{dictionary}
+use Rattle.rfc6733.specs.Dictionary.{Dictionary}
+use Rattle.attribute.specs.ByTable.{dictionaryBy}
+use Rattle.attribute.proofs.Dictionaries.{kind-is-known}
 use Rattle.value.specs.Values.{Shows, newValue}
 use Rattle.avps.proofs.OtherKinds.{other-address}
-use Rattle.avps.proofs.Entering.{kind-found, Group, a-group, no-members, members-written}
+use Rattle.avps.proofs.Entering.{Group, a-group, no-members, members-written}
 use Rattle.attribute.proofs.kind.Reads as table-kind
 use Rattle.value.proofs.Value.new.Reads as new
 use Rattle.value.proofs.Value.kind.Reads as kind
@@ -25,25 +27,27 @@ module _ (t : ℕ) where
   abbrev value-start : value.After-kind2 (value-calls t) (value-at t) value-reads.Post → value.Start (value-calls t) (value-at t) value-reads.Post
   value-start c = c .before .before .before .before .before .before
 
+  abbrev by : value.Start (value-calls t) (value-at t) value-reads.Post → Dictionary
+  by b = dictionaryBy (b .args .d) (now (b .args .kinds))
+
   -- the value is that of the dictionary's kind
   value-shown : (c : value.After-kind2 (value-calls t) (value-at t) value-reads.Post)
       → let b = value-start c in
-      let D = dictionary (b .args .reading) in
-      Shows (newValue D (D .kind (b .args .code) (b .args .vendor)) (now (b .args .«data»))) (now (b .args .«data»)) (c .before .new .result)
+      let D = by b in
+      Shows (newValue (D .asAddress) (D .kind (b .args .code) (b .args .vendor)) (now (b .args .«data»))) (now (b .args .«data»)) (c .before .new .result)
+  unfolding dictionaryBy
   value-shown c =
-      let b = value-start c in
-      let a = b .args in
-      let k = c .before .before .kind in
-      rw (kind-found (a .reading) (now (a .kinds)) (a .code) (a .vendor) (k .result) (b .pre .1 .1 .1) (k .ensures)) at (c .before .new .ensures)
+      let a = value-start c .args in
+      rw (c .before .before .kind .ensures, kind-is-known (a .d) (now (a .kinds)) (a .code) (a .vendor)) at (c .before .new .ensures)
 
   -- a value that is Grouped is entered
   value-group : (c : value.Then1 (value-calls t) (value-at t) value-reads.Post)
       → let b = value-start (c .before) in
-      Group (dictionary (b .args .reading)) (b .args .code) (b .args .vendor) (now (b .args .«data»))
+      Group (by b) (b .args .code) (b .args .vendor) (now (b .args .«data»))
   value-group c =
       let k = c .before in
       let b = value-start k in
-      a-group (value-shown k) (other-address (b .args .reading) _) (sym (k .kind2 .ensures) ∙ c .if1 .taken)
+      a-group (value-shown k) (other-address _ _ _) (sym (k .kind2 .ensures) ∙ c .if1 .taken)
 
   -- ---- its needs
 
@@ -54,13 +58,13 @@ module _ (t : ℕ) where
   read-run-requires c κs =
       let g = value-group (c .before) in
       let b = value-start (c .before .before) in
-      (omega (arith, b .pre), (g .tiles-is, (rw (g .entered-is) at (b .pre .1 .1 .0), b .pre .1 .1 .1)))
+      (omega (arith, b .pre), (g .tiles-is, rw (g .entered-is) at (b .pre .1 .1)))
 
   pub returns : value.Need-returns (value-calls t) (value-at t) value-reads.Post
   returns c =
       let k = c .before .before .before .before in
       let b = value-start (k .before) in
-      members-written (value-group k) (k .if1 .taken) (omega (arith, b .pre .1 .0, b .pre .1 .1 .0)) (c .before .before .read-run .ensures)
+      members-written (value-group k) (k .if1 .taken) (omega (arith, b .pre .1 .0, b .pre .1 .1)) (c .before .before .read-run .ensures)
 
   pub returns-2 : value.Need-returns-2 (value-calls t) (value-at t) value-reads.Post
   returns-2 c =
