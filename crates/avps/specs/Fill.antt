@@ -5,11 +5,11 @@ use mathlib.Core.Path.{_≡_}
 use mathlib.Core.List.{List, _++_}
 use lib.ListN.{length, replicate}
 use Rattle.octets.specs.Octets.{over}
-use Rattle.octets.specs.Run.{Tree, deepest}
+use Rattle.octets.specs.Run.{Tree, tree, deepest}
 use Rattle.rfc6733.specs.Avp.{mostDepth}
 use Rattle.rfc6733.specs.Dictionary.{Dictionary}
 use Rattle.record.specs.Record.{recordSize, laid}
-use Rattle.rfc6733.specs.Records.{errors, records, recordCount}
+use Rattle.rfc6733.specs.Records.{avps, errors, records, recordCount}
 use Rattle.rfc6733.specs.Entered.{valueIn, entered}
 use Rattle.avps.specs.Answers.{lastPlace}
 use Rattle.avps.specs.declared.fill.Ran.{Ran}
@@ -32,6 +32,10 @@ pub record Recorded (D : Dictionary) (t : Tree) (place depth : ℕ) (r : Ran) (b
   pub errors-are : r .errors ≡ errors D t
   pub store-is : after ≡ over (laid (records D place depth t)) before
 
+-- the same of the run s, with so many levels left
+abbrev pub RunRecorded : Dictionary → List ℕ → ℕ → ℕ → Ran → List ℕ → List ℕ → Type 0
+RunRecorded D s place left r before after = Recorded D (tree (avps D) s) place (depthAt left) r before after
+
 -- the value is answered, and the records of the run that was entered stand at the front of the store
 pub record Members (D : Dictionary) (code vendor : ℕ) (s : List ℕ) (place depth : ℕ) (r : Valued) (before after : List ℕ) : Type 0 where
   pub kind-is : r .kind ≡ valueIn D code vendor s .kind
@@ -44,3 +48,7 @@ pub record Members (D : Dictionary) (code vendor : ℕ) (s : List ℕ) (place de
 pub record Cleared (D : Dictionary) (t : Tree) (place e : ℕ) (before after : List ℕ) : Type 0 where
   pub errors-are : e ≡ errors D t
   pub store-is : after ≡ laid (records D place 1 t) ++ replicate (length before - length (laid (records D place 1 t))) 0
+
+-- the same of the run s
+abbrev pub RunCleared : Dictionary → List ℕ → ℕ → ℕ → List ℕ → List ℕ → Type 0
+RunCleared D s place e before after = Cleared D (tree (avps D) s) place e before after

@@ -19,7 +19,7 @@ ghost use Rattle.rfc6733.specs.Records.{avps};
 ghost use Rattle.rfc6733.specs.Entered.{entered};
 ghost use Rattle.front.specs.Front.{avpOf};
 ghost use Rattle.attribute.specs.ByTable.{dictionaryBy};
-ghost use Rattle.avps.specs.Fill.{depthAt, Room, Recorded, Members};
+ghost use Rattle.avps.specs.Fill.{depthAt, Room, RunRecorded, Members};
 
 // How many records, and their error flags joined.
 pub(super) struct Ran {
@@ -69,7 +69,7 @@ pub(super) fn read_run(
 ) -> Ran
     requires { ⌜ tiles (tree (avps (dictionaryBy d (now kinds))) (now s)) ≡ true ⌝ }
     requires { ⌜ Room (tree (avps (dictionaryBy d (now kinds))) (now s)) place (length (now s)) left (length (now store)) ⌝ }
-    ensures { λ r. ⌜ Recorded (dictionaryBy d (now (kinds .entry))) (tree (avps (dictionaryBy d (now (kinds .entry)))) (now (s .entry))) place (depthAt left) r (now (store .entry)) (now (store .exit)) ⌝ }
+    ensures { λ r. ⌜ RunRecorded (dictionaryBy d (now (kinds .entry))) (now (s .entry)) place left r (now (store .entry)) (now (store .exit)) ⌝ }
 {
     let mut at: usize = 0;
     let mut n: usize = 0;
@@ -107,7 +107,7 @@ fn read_avp(
 ) -> Ran
     requires { ⌜ (a ≡ avpOf (now s)) × Exact (now s) ⌝ }
     requires { ⌜ Room (tree (avps (dictionaryBy d (now kinds))) (now s)) place (length (now s)) left (length (now store)) ⌝ }
-    ensures { λ r. ⌜ Recorded (dictionaryBy d (now (kinds .entry))) (tree (avps (dictionaryBy d (now (kinds .entry)))) (now (s .entry))) place (depthAt left) r (now (store .entry)) (now (store .exit)) ⌝ }
+    ensures { λ r. ⌜ RunRecorded (dictionaryBy d (now (kinds .entry))) (now (s .entry)) place left r (now (store .entry)) (now (store .exit)) ⌝ }
 {
     let from = a.header_size();
     let to = a.length;

@@ -13,10 +13,10 @@ ghost use lib.ListN.{length, replicate};
 ghost use Rattle.octets.specs.Run.{tree, tiles};
 ghost use Rattle.rfc6733.specs.Records.{avps};
 ghost use Rattle.rfc6733.specs.Avp.{mostDepth};
-ghost use Rattle.record.specs.Store.{capacity, stored};
+ghost use Rattle.record.specs.Store.{room, stored};
 ghost use Rattle.rfc6733.specs.Decoder.{runRecords};
 ghost use Rattle.attribute.specs.ByTable.{dictionaryBy};
-ghost use Rattle.avps.specs.Fill.{Room, Cleared};
+ghost use Rattle.avps.specs.Fill.{Room, RunCleared};
 ghost use Rattle.avps.specs.Answers.{answerOf, runAnswer};
 
 /// An accepted run: its error flags, number of records, headers tried and length.
@@ -51,7 +51,7 @@ fn clear(store: &mut [u8])
 fn fill_store(d: Dictionary, kinds: &[u8], s: &[u8], place: usize, store: &mut [u8]) -> u8
     requires { ⌜ tiles (tree (avps (dictionaryBy d (now kinds))) (now s)) ≡ true ⌝ }
     requires { ⌜ Room (tree (avps (dictionaryBy d (now kinds))) (now s)) place (length (now s)) mostDepth (length (now store)) ⌝ }
-    ensures { λ r. ⌜ Cleared (dictionaryBy d (now (kinds .entry))) (tree (avps (dictionaryBy d (now (kinds .entry)))) (now (s .entry))) place r (now (store .entry)) (now (store .exit)) ⌝ }
+    ensures { λ r. ⌜ RunCleared (dictionaryBy d (now (kinds .entry))) (now (s .entry)) place r (now (store .entry)) (now (store .exit)) ⌝ }
 {
     let ran = fill::read_run(d, kinds, s, place, AVP::MOST_DEPTH, store);
     let n = ran.records;
@@ -69,7 +69,7 @@ pub fn parse_avps(
     place: u32,
     store: &mut [u8],
 ) -> Filled
-    ensures answer { λ r. ⌜ answerOf r ≡ runAnswer (dictionaryBy d (now (kinds .entry))) limit (capacity (length (now (store .entry)))) place (now (s .entry)) ⌝ }
+    ensures answer { λ r. ⌜ answerOf r ≡ runAnswer (dictionaryBy d (now (kinds .entry))) limit (room (now (store .entry))) place (now (s .entry)) ⌝ }
     ensures store { λ r. ⌜ now (store .exit) ≡ stored (answerOf r) (runRecords (dictionaryBy d (now (kinds .entry))) place (now (s .entry))) (now (store .entry)) ⌝ }
 {
     if ((LAST_PLACE - place) as usize) < s.len() {

@@ -17,7 +17,7 @@ use Rattle.rfc6733.specs.Records.{avpKind, avps, recordCount}
 use Rattle.rfc6733.proofs.Alone.{Joined, exact-tree, alone-plain, alone-group}
 use Rattle.rfc6733.proofs.RunRecords.{count-tried}
 use Rattle.rfc6733.proofs.Tried.{tried-length}
-use Rattle.count.specs.declared.Level.the-variants.{TooDeep, Counts}
+use Rattle.count.specs.declared.Level.the-variants.{TooDeep, Within}
 use Rattle.count.specs.Counts.{levelOf}
 
 -- ---- facts and answers
@@ -32,7 +32,7 @@ pub deep : (left : ℕ) (t : Tree) → left < deepest t → TooDeep ≡ levelOf 
 unfolding levelOf
 deep left t h = rw (lt-ltb left (deepest t) h)
 
-pub counts : {left : ℕ} {t : Tree} {b : Bool} {n k : ℕ} → Known left t b n k → Counts b n k ≡ levelOf left t
+pub counts : {left : ℕ} {t : Tree} {b : Bool} {n k : ℕ} → Known left t b n k → Within b n k ≡ levelOf left t
 unfolding levelOf
 counts w = rw (le-ltb _ _ (w .shallow), w .tiles-is, w .records-is, w .tried-is)
 
@@ -40,15 +40,15 @@ pub was-deep : (left : ℕ) (t : Tree) → TooDeep ≡ levelOf left t → left <
 unfolding levelOf
 was-deep left t e = by (ltb left (deepest t)) refl e
   where
-    by : (q : Bool) → ltb left (deepest t) ≡ q → TooDeep ≡ cond q TooDeep (Counts (tiles t) (recordCount t) (tried t)) → left < deepest t
+    by : (q : Bool) → ltb left (deepest t) ≡ q → TooDeep ≡ cond q TooDeep (Within (tiles t) (recordCount t) (tried t)) → left < deepest t
     by true f e = ltb-true _ _ f
     by false f e = let z : _≡_ {A = ℕ} 0 1 = cc in absurd (omega arith)
 
-pub was-counts : (left : ℕ) (t : Tree) (b : Bool) (n k : ℕ) → Counts b n k ≡ levelOf left t → Known left t b n k
+pub was-counts : (left : ℕ) (t : Tree) (b : Bool) (n k : ℕ) → Within b n k ≡ levelOf left t → Known left t b n k
 unfolding levelOf
 was-counts left t b n k e = by (ltb left (deepest t)) refl e
   where
-    by : (q : Bool) → ltb left (deepest t) ≡ q → Counts b n k ≡ cond q TooDeep (Counts (tiles t) (recordCount t) (tried t)) → Known left t b n k
+    by : (q : Bool) → ltb left (deepest t) ≡ q → Within b n k ≡ cond q TooDeep (Within (tiles t) (recordCount t) (tried t)) → Known left t b n k
     by true f e = let z : _≡_ {A = ℕ} 0 1 = cc in absurd (omega arith)
     by false f e = record { shallow = ltb-false _ _ f; tiles-is = cc; records-is = cc; tried-is = cc }
 
@@ -98,7 +98,7 @@ module _ {left : ℕ} {t r : Tree} {n k : ℕ} (p : Passed left t r n k) where
 
   -- what is left is x, nothing or a broken header
   pub then-ends : (x : Tree) {m j : ℕ} → r ≡ x → deepest x ≤ left → m ≡ n + recordCount x → j ≡ k + tried x
-      → Counts (tiles x) m j ≡ levelOf left t
+      → Within (tiles x) m j ≡ levelOf left t
   then-ends x e d records-are tried-are =
       let c = ap recordCount e in
       let h = ap tried e in
@@ -108,7 +108,7 @@ module _ {left : ℕ} {t r : Tree} {n k : ℕ} (p : Passed left t r n k) where
 -- ---- one AVP
 
 module _ (D : Dictionary) (a : List ℕ) (e : Exact a) (left : ℕ) (some : 0 < left) where
-  pub one-plain : (avpKind D a ≡ grouped → ⊥) → Counts true 1 1 ≡ levelOf left (tree (avps D) a)
+  pub one-plain : (avpKind D a ≡ grouped → ⊥) → Within true 1 1 ≡ levelOf left (tree (avps D) a)
   one-plain p =
       rw (exact-tree D a e, alone-plain D a (ne-eqb (avpKind D a) grouped p))
       (counts (record { shallow = omega arith; tiles-is = refl; records-is = refl; tried-is = refl }))
@@ -121,7 +121,7 @@ module _ (D : Dictionary) (a : List ℕ) (e : Exact a) (left : ℕ) (some : 0 < 
 
     -- the records of its members are counted where it tiles
     pub one-group : {b : Bool} {n k : ℕ} (m : ℕ) → Known (left - 1) (tree (avps D) (payload a)) b n k → m ≡ cond b n 0
-        → Counts true (1 + m) (1 + k) ≡ levelOf left (tree (avps D) a)
+        → Within true (1 + m) (1 + k) ≡ levelOf left (tree (avps D) a)
     one-group {b} {n} {k} m w h =
         let i = tree (avps D) (payload a) in
         let z : m ≡ cond (tiles i) (recordCount i) 0 = h ∙ rw (← w .tiles-is, ← w .records-is) in

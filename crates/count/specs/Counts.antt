@@ -10,14 +10,14 @@ use Rattle.rfc6733.specs.Records.{recordCount}
 use Rattle.rfc6733.specs.Decoder.{limitRefusals, tileRefusals, depthRefusals}
 use Rattle.refusal.specs.Refusals.{refusedAs}
 use Rattle.count.specs.declared.Level.{Level}
-use Rattle.count.specs.declared.Level.the-variants.{TooDeep, Counts}
+use Rattle.count.specs.declared.Level.the-variants.{TooDeep, Within}
 use Rattle.count.specs.declared.Counted.{Counted}
 use Rattle.count.specs.declared.Counted.the-variants.{Fits, Refused}
 
 -- ---- the levels that are left
 
 unfoldable pub levelOf : ℕ → Tree → Level
-levelOf left t = cond (ltb left (deepest t)) TooDeep (Counts (tiles t) (recordCount t) (tried t))
+levelOf left t = cond (ltb left (deepest t)) TooDeep (Within (tiles t) (recordCount t) (tried t))
 
 -- ---- a run by its depth limit
 

@@ -24,7 +24,7 @@ pub enum Counted {
 // What the levels that are left hold of a run, or that a header is tried deeper.
 enum Level {
     TooDeep,
-    Counts {
+    Within {
         tiles: bool,
         records: usize,
         tried: usize,
@@ -48,7 +48,7 @@ pub fn count_run(d: Dictionary, kinds: &[u8], s: &[u8], limit: usize) -> Counted
     if !allowed(limit) {
         return Counted::Refused(Refusal::BadDepth);
     }
-    let Level::Counts {
+    let Level::Within {
         tiles,
         records,
         tried,
@@ -78,14 +78,14 @@ fn count_level(d: Dictionary, kinds: &[u8], s: &[u8], left: usize) -> Level
             return Level::TooDeep;
         }
         let First::Whole(a) = front::first_avp(&s[at..]) else {
-            return Level::Counts {
+            return Level::Within {
                 tiles: false,
                 records,
                 tried: tried + 1,
             };
         };
         let next = at + a.size;
-        let Level::Counts {
+        let Level::Within {
             tiles: _,
             records: r,
             tried: t,
@@ -97,7 +97,7 @@ fn count_level(d: Dictionary, kinds: &[u8], s: &[u8], left: usize) -> Level
         tried += t;
         at = next;
     }
-    Level::Counts {
+    Level::Within {
         tiles: true,
         records,
         tried,
@@ -110,7 +110,7 @@ fn count_avp(d: Dictionary, kinds: &[u8], s: &[u8], a: AVP, left: usize) -> Leve
     ensures { λ r. ⌜ r ≡ levelOf left (tree (avps (dictionaryBy d (now (kinds .entry)))) (now (s .entry))) ⌝ }
 {
     if attribute::kind(d, kinds, a.code, a.vendor_id) != GROUPED {
-        return Level::Counts {
+        return Level::Within {
             tiles: true,
             records: 1,
             tried: 1,
@@ -118,7 +118,7 @@ fn count_avp(d: Dictionary, kinds: &[u8], s: &[u8], a: AVP, left: usize) -> Leve
     }
     let from = a.header_size();
     let to = a.length;
-    let Level::Counts {
+    let Level::Within {
         tiles,
         records,
         tried,
@@ -128,7 +128,7 @@ fn count_avp(d: Dictionary, kinds: &[u8], s: &[u8], a: AVP, left: usize) -> Leve
     };
     // A group that does not tile has a record, and none for its members.
     let members = if tiles { records } else { 0 };
-    Level::Counts {
+    Level::Within {
         tiles: true,
         records: 1 + members,
         tried: 1 + tried,

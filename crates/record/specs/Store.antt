@@ -10,6 +10,10 @@ use Rattle.record.specs.Record.{Record, recordSize, laid}
 abbrev pub capacity : ℕ → ℕ
 capacity n = n / recordSize
 
+-- and how many this one has
+abbrev pub room : List ℕ → ℕ
+room store = capacity (length store)
+
 -- the records and zero to its last byte where they were accepted, and as lent where not
 unfoldable pub stored : {A : Type 0} → Answer A → List Record → List ℕ → List ℕ
 stored (accepted x) rs store = laid rs ++ replicate (length store - length (laid rs)) 0

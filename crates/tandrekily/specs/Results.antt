@@ -8,7 +8,7 @@ use lib.ListN.{length}
 use Rattle.refusal.specs.Answer.{Answer, accepted, refused}
 use Rattle.rfc6733.specs.Header.{Header}
 use Rattle.rfc6733.specs.Decoder.{Counts, Message, decoded, messageRecords, avpAlone, aloneRecords}
-use Rattle.record.specs.Store.{capacity, stored}
+use Rattle.record.specs.Store.{room, stored}
 use Rattle.rfc6733.specs.Writer.{Fields, written, tableBytes, output}
 use Rattle.attribute.specs.Attributes.{dictionary}
 use Rattle.attribute.specs.declared.Reading.{Reading}
@@ -68,10 +68,10 @@ writtenResult (refused n a) = refusal n a
 
 -- a message or one AVP in a reading, with a depth limit and a lent store
 abbrev pub messageAsked : Bool → ℕ → List ℕ → List ℕ → Answer Message
-messageAsked rfc limit store input = decoded (dictionary (readingOf rfc)) limit (capacity (length store)) input
+messageAsked rfc limit store input = decoded (dictionary (readingOf rfc)) limit (room store) input
 
 abbrev pub avpAsked : Bool → ℕ → List ℕ → List ℕ → Answer Counts
-avpAsked rfc limit store input = avpAlone (dictionary (readingOf rfc)) limit (capacity (length store)) input
+avpAsked rfc limit store input = avpAlone (dictionary (readingOf rfc)) limit (room store) input
 
 -- a table to be written, with a lent output
 abbrev pub writeAsked : Fields → List ℕ → List ℕ → List ℕ → Answer ℕ

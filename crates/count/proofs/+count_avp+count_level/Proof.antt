@@ -23,7 +23,7 @@ use Rattle.rfc6733.proofs.Items.{sound}
 use Rattle.rfc6733.proofs.Alone.{some-tried}
 use Rattle.attribute.specs.ByTable.{dictionaryBy}
 use Rattle.front.proofs.Fronts.{Turn, turn, stuck, here}
-use Rattle.count.specs.declared.Level.the-variants.{Counts}
+use Rattle.count.specs.declared.Level.the-variants.{Within}
 use Rattle.count.specs.Counts.{levelOf}
 use Rattle.count.proofs.Levels.{Known, was-deep, was-counts, within, Passed, none-passed, one-passed, then-deep, then-ends, one-plain, one-deep, one-group}
 use Rattle.count.proofs.Lent.{Own, own, Inside, inside}
@@ -114,7 +114,7 @@ module _ (t : ℕ) where
   with-members : (c : count-avp-lts.Joined2 (count-avp-calls t) (count-avp-at t) count-avp.Post)
       → let b = entry (c .before .before .before .before .before .before .before) in
       let k = c .before .before .tiles .given .0 in
-      Counts true (1 + c .if2 .members) (1 + k .1 .1 .0) ≡ levelOf (b .args .left) (one b)
+      Within true (1 + c .if2 .members) (1 + k .1 .1 .0) ≡ levelOf (b .args .left) (one b)
   with-members c =
       let e = c .before .before .before .before .before .before .before in
       let k = c .before .before .tiles .given .0 in
