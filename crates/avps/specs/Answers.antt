@@ -9,8 +9,9 @@ use Rattle.refusal.specs.Answer as rfc
 use Rattle.refusal.specs.Answer.{Answer, accepted, refuse, answer}
 use Rattle.rfc6733.specs.Dictionary.{Dictionary}
 use Rattle.rfc6733.specs.Decoder as definition
-use Rattle.rfc6733.specs.Decoder.{limitRefusals, runRefusals, runCounts}
+use Rattle.rfc6733.specs.Decoder.{limitRefusals, runRefusals, runRecords, runCounts}
 use Rattle.refusal.specs.Refusals.{refusedAs}
+use Rattle.record.specs.Store.{stored}
 use Rattle.avps.specs.declared.Counts.{Counts}
 use Rattle.avps.specs.declared.Filled.{Filled}
 use Rattle.avps.specs.declared.Filled.the-variants.{Accepted, Refused}
@@ -32,3 +33,7 @@ runAnswer D limit room place s =
     answer
     (refuse (ltb lastPlace (place + length s)) rfc.tooLong 0 ∷ (limitRefusals limit ++ runRefusals D limit room place s))
     (runCounts D place s)
+
+-- the store afterwards
+abbrev pub storeAfterRun : Dictionary → ℕ → List ℕ → List ℕ → Filled → List ℕ
+storeAfterRun D place s store r = stored (answerOf r) (runRecords D place s) store

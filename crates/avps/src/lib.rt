@@ -13,11 +13,10 @@ ghost use lib.ListN.{length, replicate};
 ghost use Rattle.octets.specs.Run.{tree, tiles};
 ghost use Rattle.rfc6733.specs.Records.{avps};
 ghost use Rattle.rfc6733.specs.Avp.{mostDepth};
-ghost use Rattle.record.specs.Store.{room, stored};
-ghost use Rattle.rfc6733.specs.Decoder.{runRecords};
+ghost use Rattle.record.specs.Store.{room};
 ghost use Rattle.attribute.specs.ByTable.{dictionaryBy};
 ghost use Rattle.avps.specs.Fill.{Room, RunCleared};
-ghost use Rattle.avps.specs.Answers.{answerOf, runAnswer};
+ghost use Rattle.avps.specs.Answers.{answerOf, runAnswer, storeAfterRun};
 
 /// An accepted run: its error flags, number of records, headers tried and length.
 pub struct Counts {
@@ -70,7 +69,7 @@ pub fn parse_avps(
     store: &mut [u8],
 ) -> Filled
     ensures answer { λ r. ⌜ answerOf r ≡ runAnswer (dictionaryBy d (now (kinds .entry))) limit (room (now (store .entry))) place (now (s .entry)) ⌝ }
-    ensures store { λ r. ⌜ now (store .exit) ≡ stored (answerOf r) (runRecords (dictionaryBy d (now (kinds .entry))) place (now (s .entry))) (now (store .entry)) ⌝ }
+    ensures store { λ r. ⌜ now (store .exit) ≡ storeAfterRun (dictionaryBy d (now (kinds .entry))) place (now (s .entry)) (now (store .entry)) r ⌝ }
 {
     if ((LAST_PLACE - place) as usize) < s.len() {
         return Filled::Refused(Refusal::TooLong);

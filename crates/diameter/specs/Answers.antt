@@ -8,6 +8,10 @@ use Rattle.rfc6733.specs.Avp.{avpSize, complete}
 use Rattle.refusal.specs.Answer.{Answer, accepted}
 use Rattle.rfc6733.specs.Decoder as definition
 use Rattle.refusal.specs.Refusals.{refusedAs}
+use Rattle.record.specs.Store.{stored}
+use Rattle.rfc6733.specs.Dictionary.{Dictionary}
+use Rattle.avps.specs.declared.Filled.{Filled}
+use Rattle.avps.specs.Answers as avps
 use Rattle.header.specs.declared.Header.{Header}
 use Rattle.header.specs.declared.Parsed.the-variants as parsed
 use Rattle.header.specs.Parsed as header
@@ -35,3 +39,12 @@ messageAs m =
 unfoldable pub answerOf : Decoded → Answer definition.Message
 answerOf (Accepted m) = accepted (messageAs m)
 answerOf (Refused r) = refusedAs r
+
+-- ---- the store afterwards
+
+-- of a message, and of one AVP alone
+abbrev pub storeAfter : Dictionary → List ℕ → List ℕ → Decoded → List ℕ
+storeAfter D input store r = stored (answerOf r) (definition.messageRecords D input) store
+
+abbrev pub storeAfterAvp : Dictionary → List ℕ → List ℕ → Filled → List ℕ
+storeAfterAvp D input store r = stored (avps.answerOf r) (definition.aloneRecords D input) store

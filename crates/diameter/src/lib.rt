@@ -11,12 +11,12 @@ use refusal::Refusal;
 ghost use mathlib.Core.Path.{_≡_};
 ghost use mathlib.Core.Bool.{true};
 ghost use lib.ListN.{length};
-ghost use Rattle.rfc6733.specs.Decoder.{allowed, decoded, messageRecords, avpAlone, aloneRecords};
-ghost use Rattle.record.specs.Store.{room, stored};
+ghost use Rattle.rfc6733.specs.Decoder.{allowed, decoded, avpAlone};
+ghost use Rattle.record.specs.Store.{room};
 ghost use Rattle.attribute.specs.Attributes.{dictionary};
 ghost use Rattle.attribute.specs.ByTable.{dictionaryBy};
 ghost use Rattle.avps.specs.Answers as avps;
-ghost use Rattle.diameter.specs.Answers.{Headed, Complete, answerOf};
+ghost use Rattle.diameter.specs.Answers.{Headed, Complete, answerOf, storeAfter, storeAfterAvp};
 
 /// An accepted message: its header, error flags, number of records, headers tried and consumed length.
 pub struct Message {
@@ -49,7 +49,7 @@ fn parse_body(
     requires { ⌜ allowed limit ≡ true ⌝ }
     requires { ⌜ Headed header errors (now input) ⌝ }
     ensures answer { λ r. ⌜ answerOf r ≡ decoded (dictionaryBy d (now (kinds .entry))) limit (room (now (store .entry))) (now (input .entry)) ⌝ }
-    ensures store { λ r. ⌜ now (store .exit) ≡ stored (answerOf r) (messageRecords (dictionaryBy d (now (kinds .entry))) (now (input .entry))) (now (store .entry)) ⌝ }
+    ensures store { λ r. ⌜ now (store .exit) ≡ storeAfter (dictionaryBy d (now (kinds .entry))) (now (input .entry)) (now (store .entry)) r ⌝ }
 {
     let length = header.length as usize;
     let body = &input[Header::SIZE..length];
@@ -68,7 +68,7 @@ fn parse_body(
 /// Decodes the message at the front of `input` into records in `store`.
 pub fn parse(reading: Reading, limit: usize, input: &[u8], store: &mut [u8]) -> Decoded
     ensures answer { λ r. ⌜ answerOf r ≡ decoded (dictionary reading) limit (room (now (store .entry))) (now (input .entry)) ⌝ }
-    ensures store { λ r. ⌜ now (store .exit) ≡ stored (answerOf r) (messageRecords (dictionary reading) (now (input .entry))) (now (store .entry)) ⌝ }
+    ensures store { λ r. ⌜ now (store .exit) ≡ storeAfter (dictionary reading) (now (input .entry)) (now (store .entry)) r ⌝ }
 {
     if !count::allowed(limit) {
         return Decoded::Refused(Refusal::BadDepth);
@@ -102,7 +102,7 @@ fn parse_one(
     requires { ⌜ allowed limit ≡ true ⌝ }
     requires { ⌜ Complete size (now input) ⌝ }
     ensures answer { λ r. ⌜ avps.answerOf r ≡ avpAlone (dictionaryBy d (now (kinds .entry))) limit (room (now (store .entry))) (now (input .entry)) ⌝ }
-    ensures store { λ r. ⌜ now (store .exit) ≡ stored (avps.answerOf r) (aloneRecords (dictionaryBy d (now (kinds .entry))) (now (input .entry))) (now (store .entry)) ⌝ }
+    ensures store { λ r. ⌜ now (store .exit) ≡ storeAfterAvp (dictionaryBy d (now (kinds .entry))) (now (input .entry)) (now (store .entry)) r ⌝ }
 {
     avps::parse_avps(d, kinds, limit, &input[..size], 0, store)
 }
@@ -110,7 +110,7 @@ fn parse_one(
 /// Decodes the one AVP at the front of `input`, at depth 1, into records in `store`. Accepted, its length is its padded size.
 pub fn parse_avp(reading: Reading, limit: usize, input: &[u8], store: &mut [u8]) -> Filled
     ensures answer { λ r. ⌜ avps.answerOf r ≡ avpAlone (dictionary reading) limit (room (now (store .entry))) (now (input .entry)) ⌝ }
-    ensures store { λ r. ⌜ now (store .exit) ≡ stored (avps.answerOf r) (aloneRecords (dictionary reading) (now (input .entry))) (now (store .entry)) ⌝ }
+    ensures store { λ r. ⌜ now (store .exit) ≡ storeAfterAvp (dictionary reading) (now (input .entry)) (now (store .entry)) r ⌝ }
 {
     if !count::allowed(limit) {
         return Filled::Refused(Refusal::BadDepth);

@@ -1,6 +1,7 @@
 -- The writer's answers, as those of the definition.
 -- Assumes nothing: these are definitions.
 use Prim.Native.Nat.{ℕ}
+use mathlib.Core.List.{List}
 use Rattle.refusal.specs.Answer.{Answer, accepted}
 use Rattle.rfc6733.specs.Writer as definition
 use Rattle.refusal.specs.Refusals.{refusedAs}
@@ -14,3 +15,7 @@ fieldsAs f = record { flags = f .flags; code = f .code; appId = f .«app_id»; h
 unfoldable pub answerOf : Written → Answer ℕ
 answerOf (Accepted total) = accepted total
 answerOf (Refused r) = refusedAs r
+
+-- the output afterwards
+abbrev pub outputAfter : definition.Fields → List ℕ → List ℕ → List ℕ → Written → List ℕ
+outputAfter f table pool out r = definition.output (answerOf r) (definition.tableBytes f table pool) out

@@ -11,8 +11,8 @@ ghost use mathlib.Core.Path.{_≡_};
 ghost use Prim.Native.Nat.{_≤_};
 ghost use lib.ListN.{length};
 ghost use Rattle.octets.specs.Octets.{pack, over};
-ghost use Rattle.rfc6733.specs.Writer.{written, tableBytes, output, headerFields};
-ghost use Rattle.writer.specs.Answers.{fieldsAs, answerOf};
+ghost use Rattle.rfc6733.specs.Writer.{written, headerFields};
+ghost use Rattle.writer.specs.Answers.{fieldsAs, answerOf, outputAfter};
 
 /// The header fields of a message to be written; the version is 1 and the length is computed.
 pub struct Fields {
@@ -53,7 +53,7 @@ impl Fields {
 /// Writes the message of a table to the front of `out`. The records' data stand in `pool`.
 pub fn write(fields: Fields, table: &[u8], pool: &[u8], out: &mut [u8]) -> Written
     ensures answer { λ r. ⌜ answerOf r ≡ written (fieldsAs fields) (now (table .entry)) (now (pool .entry)) (length (now (out .entry))) ⌝ }
-    ensures out { λ r. ⌜ now (out .exit) ≡ output (answerOf r) (tableBytes (fieldsAs fields) (now (table .entry)) (now (pool .entry))) (now (out .entry)) ⌝ }
+    ensures out { λ r. ⌜ now (out .exit) ≡ outputAfter (fieldsAs fields) (now (table .entry)) (now (pool .entry)) (now (out .entry)) r ⌝ }
 {
     if Fields::MOST_CODE < fields.code {
         return Written::Refused(Refusal::BadHeader);
