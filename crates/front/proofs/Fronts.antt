@@ -39,7 +39,7 @@ was-whole s a e = subst (λ (r : First). Was r s) (sym e) (was s)
 pub was-broken : (s : List ℕ) → Broken ≡ firstOf s → complete s ≡ false
 was-broken s e = subst (λ (r : First). Was r s) (sym e) (was s)
 
--- an AVP that `AVP::head` accepts is complete too
+-- an AVP that `parse` accepts is complete too
 pub was-accepted : (s : List ℕ) (a : AVP) → answerOf (front.Accepted a) ≡ parsedOf s → (complete s ≡ true) × (a ≡ avpOf s)
 unfolding answerOf parsedOf complete
 was-accepted s a e = let p = passed (avpRefusals s) (avpOf s) a (sym e) in (p .0, sym (p .1))

@@ -1,4 +1,4 @@
--- What each way of decoding answers, and what the store holds afterwards (docs/FORMAT.md, 7).
+-- What each way of decoding answers (docs/FORMAT.md, 7), and of which records.
 -- Assumes nothing: these are definitions.
 use Prim.Native.Nat.{ℕ, _-_}
 use mathlib.Core.Bool.{Bool, not, _&&_}
@@ -119,5 +119,3 @@ aloneOf D s =
 
 unfoldable pub avpAlone : Dictionary → ℕ → ℕ → List ℕ → Answer Counts
 avpAlone D limit room s = answer (aloneRefusals D limit room s) (aloneOf D s)
-
--- ---- the store afterwards

@@ -23,8 +23,6 @@ pub record Fields : Type 0 where
   pub hopId : ℕ
   pub endId : ℕ
 
--- ---- the table
-
 -- ---- the rules
 
 abbrev pub isGroup : Record → Bool

@@ -1,4 +1,4 @@
--- `AVP::complete` meets its contract: an AVP is complete exactly where its 8 bytes are there, its length counts its header, and its
+-- `first_avp` meets its contract: an AVP is complete exactly where its 8 bytes are there, its length counts its header, and its
 -- padded size is there. These are the three tests, and past them its fields are read.
 -- Assumes nothing.
 use Prim.Native.Nat.{ℕ}

@@ -1,4 +1,4 @@
--- `AVP::head` meets its contract: a complete AVP is accepted with its fields, and of one that is not, `refusal` says which refusal is
+-- `parse` meets its contract: a complete AVP is accepted with its fields, and of one that is not, `refusal` says which refusal is
 -- first.
 -- Assumes nothing.
 use mathlib.Core.Path.{sym, _∙_}
