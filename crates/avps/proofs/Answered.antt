@@ -50,7 +50,7 @@ module _ (D : Dictionary) (limit room place : ℕ) (s : List ℕ) where
     unfolding answerOf counted.answerOf counted.countOf
     count-refused why e =
         let first = limitRefusals limit ++ (tileRefusals run ++ depthRefusals limit run) in
-        sym (answer-first first (roomRefusals room (runRecords D place s)) _ (runCounts D place s) _ _ (sym e)) ∙ past-places
+        sym (answer-first first (roomRefusals room (runRecords D place s)) _ (runCounts D place s) _ (sym e)) ∙ past-places
 
     module _ (records tried : ℕ) (k : Fitting limit run records tried) where
       past-tiles : answer (fitRefusals limit room run (runRecords D place s)) (runCounts D place s) ≡ runAnswer D limit room place s

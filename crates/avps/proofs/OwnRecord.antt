@@ -19,8 +19,7 @@ use Rattle.rfc6733.specs.Avp as avp
 use Rattle.rfc6733.specs.Avp.{headSize, avpReserved, payload, padding, dataSize, Exact}
 use Rattle.rfc6733.specs.Value.{Value}
 use Rattle.rfc6733.specs.Dictionary.{Dictionary}
-use Rattle.record.specs.Record as rfc
-use Rattle.record.specs.Record.{recordSize, recordBytes, laid}
+use Rattle.record.specs.Record.{Record, recordSize, recordBytes, laid}
 use Rattle.rfc6733.specs.Records.{ownErrors, recordOf, avps, records}
 use Rattle.rfc6733.specs.Entered.{valueIn, entered}
 use Rattle.rfc6733.proofs.Complete.{sizes, complete-whole}
@@ -31,8 +30,7 @@ use Rattle.rfc6733.proofs.Entered.{Made, made}
 use Rattle.avp.specs.declared.AVP.{AVP}
 use Rattle.front.specs.Front.{avpOf}
 use Rattle.front.proofs.Fronts.{Here, here}
-use Rattle.record.specs.declared.Record.{Record}
-use Rattle.record.specs.Stored.{recordAs, put}
+use Rattle.record.specs.Store.{put}
 use Rattle.avps.specs.declared.fill.Valued.{Valued}
 use Rattle.avps.specs.Fill.{Room, Recorded, Members}
 
@@ -101,12 +99,12 @@ ownRecord a from place depth pads errors m =
       value = m .number;
     }
 
-put-with-room : (r : rfc.Record) (store : List ℕ) → recordSize ≤ length store → put r store ≡ over (recordBytes r) store
+put-with-room : (r : Record) (store : List ℕ) → recordSize ≤ length store → put r store ≡ over (recordBytes r) store
 unfolding put
 put-with-room r store h = rw (le-leb _ _ h)
 
 -- a record put at the front of a store whose part after it was lent, and came back with other bytes at its front
-put-before : (r : rfc.Record) (bytes store back : List ℕ) → recordSize ≤ length store
+put-before : (r : Record) (bytes store back : List ℕ) → recordSize ≤ length store
     → back ≡ over bytes (take (length store - recordSize) (drop recordSize store))
     → put r (putMid recordSize (length store - recordSize) store back) ≡ over (recordBytes r ++ bytes) store
 put-before r bytes store back room is =
@@ -146,8 +144,8 @@ module _ (D : Dictionary) {s : List ℕ} {a : AVP} {from : ℕ} (o : Opened s a 
   own-errors-are p e ep ee = ee ∙ rw (ep, o .pads-are, o .fields .flags-is)
 
   own-record-is : (place depth p e : ℕ) (m : Valued) (v : Value) → p ≡ be 3 (lentPadding s a) 0 → m .kind ≡ v .kind → m .number ≡ v .number
-      → e ≡ join (ownErrors s) (v .errors) → recordBytes (recordAs (ownRecord a from place depth p e m)) ≡ recordBytes (recordOf place depth s v)
-  unfolding recordBytes recordAs recordOf avp.pads
+      → e ≡ join (ownErrors s) (v .errors) → recordBytes (ownRecord a from place depth p e m) ≡ recordBytes (recordOf place depth s v)
+  unfolding recordBytes recordOf avp.pads
   own-record-is place depth p e m v ep ek en ee =
       rw (ep, ek, en, ee, o .pads-are, o .padding-is, o .from-is, o .fields .code-is, o .fields .flags-is, o .fields .length-is, o .fields .vendor-is)
 
@@ -158,7 +156,7 @@ module _ (D : Dictionary) {s : List ℕ} {a : AVP} {from : ℕ} (o : Opened s a 
       → p ≡ be 3 (lentPadding s a) 0
       → oe ≡ join (flag (not (eqb (avpReserved (a .flags)) 0)) nonZeroReserved) (flag (not (eqb p 0)) nonZeroPadding)
       → e ≡ join oe (m .errors)
-      → last ≡ put (recordAs (ownRecord a from place depth p e m)) (putMid recordSize (length store - recordSize) store back)
+      → last ≡ put (ownRecord a from place depth p e m) (putMid recordSize (length store - recordSize) store back)
       → Recorded D (tree (avps D) s) place depth (record { records = 1 + m .records; errors = e }) store last
   avp-written {place = place} {depth = depth} {store} {back} {m} {p} {oe} {e} room v ep eo ee el =
       let t = made-here in
@@ -167,7 +165,7 @@ module _ (D : Dictionary) {s : List ℕ} {a : AVP} {from : ℕ} (o : Opened s a 
       let own = recordOf place depth s w in
       let members = records D (place + from) (depth + 1) inside in
       let errors-are : e ≡ join (ownErrors s) (w .errors) = ee ∙ ap₂ join (own-errors-are p oe ep eo) (v .errors-are) in
-      let put-in = recordAs (ownRecord a from place depth p e m) in
+      let put-in = ownRecord a from place depth p e m in
       let own-is : recordBytes put-in ≡ recordBytes own =
       own-record-is place depth p e m w ep (v .kind-is) (v .number-is) errors-are
       in
@@ -181,5 +179,5 @@ module _ (D : Dictionary) {s : List ℕ} {a : AVP} {from : ℕ} (o : Opened s a 
             el
             ∙ put-before put-in (laid members) store back (room-for-own room) (v .store-is)
             ∙ ap (λ (b : List ℕ). over (b ++ laid members) store) own-is
-            ∙ ap (λ (rs : List rfc.Record). over (laid rs) store) (sym records-are);
+            ∙ ap (λ (rs : List Record). over (laid rs) store) (sym records-are);
       }

@@ -5,12 +5,11 @@ use Prim.Native.Nat.{ℕ, _+_, _-_, _^_}
 use mathlib.Core.List.{List, _∷_, _++_}
 use lib.ListN.{length}
 use lib.Dec.{ltb}
-use Rattle.refusal.specs.Answer as rfc
-use Rattle.refusal.specs.Answer.{Answer, accepted, refuse, answer}
+use Rattle.refusal.specs.Answer.{Answer, accepted, refused, refuse, answer}
+use Rattle.refusal.specs.declared.Refusal.the-variants.{TooLong}
 use Rattle.rfc6733.specs.Dictionary.{Dictionary}
 use Rattle.rfc6733.specs.Decoder as definition
 use Rattle.rfc6733.specs.Decoder.{limitRefusals, runRefusals, runRecords, runCounts}
-use Rattle.refusal.specs.Refusals.{refusedAs}
 use Rattle.record.specs.Store.{stored}
 use Rattle.avps.specs.declared.Counts.{Counts}
 use Rattle.avps.specs.declared.Filled.{Filled}
@@ -21,7 +20,7 @@ countsAs c = record { errors = c .errors; records = c .records; tried = c .tried
 
 unfoldable pub answerOf : Filled → Answer definition.Counts
 answerOf (Accepted c) = accepted (countsAs c)
-answerOf (Refused r) = refusedAs r
+answerOf (Refused r) = refused r
 
 -- a record has four bytes for a place
 abbrev pub lastPlace : ℕ
@@ -31,7 +30,7 @@ lastPlace = 256 ^ 4 - 1
 unfoldable pub runAnswer : Dictionary → ℕ → ℕ → ℕ → List ℕ → Answer definition.Counts
 runAnswer D limit room place s =
     answer
-    (refuse (ltb lastPlace (place + length s)) rfc.tooLong 0 ∷ (limitRefusals limit ++ runRefusals D limit room place s))
+    (refuse (ltb lastPlace (place + length s)) TooLong ∷ (limitRefusals limit ++ runRefusals D limit room place s))
     (runCounts D place s)
 
 -- the store afterwards

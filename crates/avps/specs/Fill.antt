@@ -11,6 +11,8 @@ use Rattle.rfc6733.specs.Dictionary.{Dictionary}
 use Rattle.record.specs.Record.{recordSize, laid}
 use Rattle.rfc6733.specs.Records.{avps, errors, records, recordCount}
 use Rattle.rfc6733.specs.Entered.{valueIn, entered}
+use Rattle.attribute.specs.declared.Dictionary as attribute
+use Rattle.attribute.specs.ByTable.{dictionaryBy}
 use Rattle.avps.specs.Answers.{lastPlace}
 use Rattle.avps.specs.declared.fill.Ran.{Ran}
 use Rattle.avps.specs.declared.fill.Valued.{Valued}
@@ -43,6 +45,11 @@ pub record Members (D : Dictionary) (code vendor : ℕ) (s : List ℕ) (place de
   pub errors-are : r .errors ≡ valueIn D code vendor s .errors
   pub count-is : r .records ≡ recordCount (entered D code vendor s)
   pub store-is : after ≡ over (laid (records D place (depth + 1) (entered D code vendor s))) before
+
+-- the same by a dictionary as the code has it, with so many levels left
+abbrev pub ValueRead : attribute.Dictionary → List ℕ → ℕ → ℕ → List ℕ → ℕ → ℕ → Valued → List ℕ → List ℕ → Type 0
+ValueRead d kinds code vendor s place left r before after =
+    Members (dictionaryBy d kinds) code vendor s place (depthAt left) r before after
 
 -- the store holds the records of t, and zero to its last byte; the flags are theirs
 pub record Cleared (D : Dictionary) (t : Tree) (place e : ℕ) (before after : List ℕ) : Type 0 where

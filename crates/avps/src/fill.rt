@@ -19,7 +19,7 @@ ghost use Rattle.rfc6733.specs.Records.{avps};
 ghost use Rattle.rfc6733.specs.Entered.{entered};
 ghost use Rattle.front.specs.Front.{avpOf};
 ghost use Rattle.attribute.specs.ByTable.{dictionaryBy};
-ghost use Rattle.avps.specs.Fill.{depthAt, Room, RunRecorded, Members};
+ghost use Rattle.avps.specs.Fill.{Room, RunRecorded, ValueRead};
 
 // How many records, and their error flags joined.
 pub(super) struct Ran {
@@ -155,7 +155,7 @@ fn read_value(
 ) -> Valued
     requires { ⌜ 0 < left ⌝ }
     requires { ⌜ Room (entered (dictionaryBy d (now kinds)) code vendor (now «data»)) place (length (now «data»)) (left - 1) (length (now store)) ⌝ }
-    ensures { λ r. ⌜ Members (dictionaryBy d (now (kinds .entry))) code vendor (now («data» .entry)) place (depthAt left) r (now (store .entry)) (now (store .exit)) ⌝ }
+    ensures { λ r. ⌜ ValueRead d (now (kinds .entry)) code vendor (now («data» .entry)) place left r (now (store .entry)) (now (store .exit)) ⌝ }
 {
     let read = Value::new(d.families, attribute::kind(d, kinds, code, vendor), data);
     let value = read.value;

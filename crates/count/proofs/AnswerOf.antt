@@ -3,19 +3,18 @@
 -- Assumes nothing.
 use mathlib.Core.Path.{_≡_, refl, sym, ap, _∙_}
 use Rattle.refusal.specs.Answer.{Answer, accepted, refused}
-use Rattle.refusal.proofs.Back.{refusal-back, is-back}
 use Rattle.count.specs.declared.Counted.{Counted}
 use Rattle.count.specs.declared.Counted.the-variants.{Fits, Refused}
 use Rattle.count.specs.Counts.{Sums, answerOf}
 
 abbrev back : Answer Sums → Counted
 back (accepted s) = Fits (s .records) (s .tried)
-back (refused number amount) = Refused (refusal-back number amount)
+back (refused why) = Refused why
 
 counted-back : (r : Counted) → back (answerOf r) ≡ r
 unfolding answerOf
 counted-back (Fits n k) = refl
-counted-back (Refused r) = ap Refused (is-back r)
+counted-back (Refused why) = refl
 
 pub answer-of-injective : (r r′ : Counted) → answerOf r ≡ answerOf r′ → r ≡ r′
 answer-of-injective r r′ e = sym (counted-back r) ∙ ap back e ∙ counted-back r′

@@ -5,10 +5,9 @@ use mathlib.Core.Bool.{cond}
 use mathlib.Core.List.{_++_}
 use lib.Dec.{ltb}
 use Rattle.octets.specs.Run.{Tree, tiles, tried, deepest}
-use Rattle.refusal.specs.Answer.{Answer, accepted, answer}
+use Rattle.refusal.specs.Answer.{Answer, accepted, refused, answer}
 use Rattle.rfc6733.specs.Records.{recordCount}
 use Rattle.rfc6733.specs.Decoder.{limitRefusals, tileRefusals, depthRefusals}
-use Rattle.refusal.specs.Refusals.{refusedAs}
 use Rattle.count.specs.declared.Level.{Level}
 use Rattle.count.specs.declared.Level.the-variants.{TooDeep, Within}
 use Rattle.count.specs.declared.Counted.{Counted}
@@ -30,7 +29,7 @@ sums t = record { records = recordCount t; tried = tried t }
 
 unfoldable pub answerOf : Counted → Answer Sums
 answerOf (Fits n k) = accepted (record { records = n; tried = k })
-answerOf (Refused r) = refusedAs r
+answerOf (Refused r) = refused r
 
 -- the limit's refusal, and then those that a run has of its headers alone
 unfoldable pub countOf : ℕ → Tree → Answer Sums

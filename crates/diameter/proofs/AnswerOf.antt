@@ -4,7 +4,6 @@
 use mathlib.Core.Path.{_≡_, refl, sym, ap, _∙_}
 use Rattle.refusal.specs.Answer.{Answer, accepted, refused}
 use Rattle.rfc6733.specs.Decoder as definition
-use Rattle.refusal.proofs.Back.{refusal-back, is-back}
 use Rattle.header.specs.Parsed.{headerAs}
 use Rattle.header.proofs.AnswerOf.{header-back}
 use Rattle.diameter.specs.declared.Decoded.{Decoded}
@@ -21,12 +20,12 @@ message-back (accepted m) =
       tried = m .counts .tried;
       length = m .counts .length;
     })
-message-back (refused number amount) = Refused (refusal-back number amount)
+message-back (refused why) = Refused why
 
 message-is-back : (r : Decoded) → message-back (answerOf r) ≡ r
 unfolding answerOf messageAs headerAs
 message-is-back (Accepted m) = refl
-message-is-back (Refused r) = ap Refused (is-back r)
+message-is-back (Refused why) = refl
 
 pub answer-of-injective : (r r′ : Decoded) → answerOf r ≡ answerOf r′ → r ≡ r′
 answer-of-injective r r′ e = sym (message-is-back r) ∙ ap message-back e ∙ message-is-back r′

@@ -7,7 +7,7 @@ use mathlib.Core.Bool.{true}
 use mathlib.Core.List.{List}
 use native.Mathlib.Omega.{arith}
 use lib.ListN.{take, drop, length-take}
-use Rattle.refusal.specs.Answer.{passes, accepted, refused, answer}
+use Rattle.refusal.specs.Answer.{Refusal, passes, accepted, refused, answer}
 use Rattle.flags.specs.Flags.{join}
 use Rattle.rfc6733.specs.Header as rfc
 use Rattle.rfc6733.specs.Header.{messageLength, headerOf, headerErrors, headerRefusals}
@@ -75,11 +75,11 @@ module _ (D : Dictionary) (limit room : ℕ) (h : Header) (own : ℕ) (s : List 
   past : answer (rest D limit room s) (messageOf D s) ≡ decoded D limit room s
   past = message-past D limit room s ok (body h own s e .passes-all)
 
-  pub refuses : {before after : List ℕ} {x : Filled} (n a : ℕ) → avps.answerOf x ≡ refused n a → Told D limit room 20 body-of before after x
-      → (refused n a ≡ decoded D limit room s) × (after ≡ before)
+  pub refuses : {before after : List ℕ} {x : Filled} (why : Refusal) → avps.answerOf x ≡ refused why → Told D limit room 20 body-of before after x
+      → (refused why ≡ decoded D limit room s) × (after ≡ before)
   unfolding stored
-  refuses n a is t = (
-    sym (answer-alike (rest D limit room s) (runCounts D 20 body-of) (messageOf D s) n a (body-answer ∙ sym (t .answer-is) ∙ is)) ∙ past,
+  refuses why is t = (
+    sym (answer-alike (rest D limit room s) (runCounts D 20 body-of) (messageOf D s) why (body-answer ∙ sym (t .answer-is) ∙ is)) ∙ past,
     rw is at (t .store-is),
   )
 

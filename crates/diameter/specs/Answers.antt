@@ -5,9 +5,8 @@ use mathlib.Core.Path.{_≡_}
 use mathlib.Core.Bool.{true}
 use mathlib.Core.List.{List}
 use Rattle.rfc6733.specs.Avp.{avpSize, complete}
-use Rattle.refusal.specs.Answer.{Answer, accepted}
+use Rattle.refusal.specs.Answer.{Answer, accepted, refused}
 use Rattle.rfc6733.specs.Decoder as definition
-use Rattle.refusal.specs.Refusals.{refusedAs}
 use Rattle.record.specs.Store.{stored}
 use Rattle.rfc6733.specs.Dictionary.{Dictionary}
 use Rattle.avps.specs.declared.Filled.{Filled}
@@ -38,7 +37,7 @@ messageAs m =
 
 unfoldable pub answerOf : Decoded → Answer definition.Message
 answerOf (Accepted m) = accepted (messageAs m)
-answerOf (Refused r) = refusedAs r
+answerOf (Refused r) = refused r
 
 -- ---- the store afterwards
 

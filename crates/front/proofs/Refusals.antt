@@ -15,7 +15,7 @@ use Rattle.refusal.proofs.Answers.{accepts}
 use Rattle.rfc6733.proofs.Complete as rfc
 use Rattle.rfc6733.proofs.Complete.{complete-whole, whole-complete}
 use Rattle.refusal.specs.declared.Refusal.the-variants.{Incomplete, BadLength}
-use Rattle.refusal.specs.Refusals.{refusedAs}
+use Rattle.refusal.specs.Answer.{refused}
 use Rattle.avp.specs.declared.AVP.{AVP}
 use Rattle.front.specs.declared.First.the-variants as found
 use Rattle.front.specs.declared.ParsedAvp.the-variants.{Accepted}
@@ -50,18 +50,18 @@ module _ (s : List ℕ) where
   unfolding answerOf parsedOf complete
   accepted-whole t a e = rw e (sym (accepts (avpRefusals s) (avpOf s) t))
 
-  pub under-four : length s < 4 → refusedAs (Incomplete (4 - length s)) ≡ parsedOf s
+  pub under-four : length s < 4 → refused (Incomplete (4 - length s)) ≡ parsedOf s
   unfolding parsedOf avpRefusals
   under-four few = simp (lt-ltb _ _ few)
 
-  pub at-four : length s ≡ 4 → refusedAs (Incomplete 1) ≡ parsedOf s
+  pub at-four : length s ≡ 4 → refused (Incomplete 1) ≡ parsedOf s
   unfolding parsedOf avpRefusals
   at-four e =
       let four : 4 ≤ length s = omega arith in
       let few : length s < 5 = omega arith in
       simp (le-ltb _ _ four, lt-ltb _ _ few)
 
-  pub under-eight : 5 ≤ length s → length s < 8 → refusedAs (Incomplete (8 - length s)) ≡ parsedOf s
+  pub under-eight : 5 ≤ length s → length s < 8 → refused (Incomplete (8 - length s)) ≡ parsedOf s
   unfolding parsedOf avpRefusals
   under-eight five few = let four : 4 ≤ length s = omega arith in simp (le-ltb _ _ four, le-ltb _ _ five, lt-ltb _ _ few)
 
@@ -73,26 +73,26 @@ module _ (s : List ℕ) where
     five : 5 ≤ length s
     five = omega arith
 
-    pub length-under-eight : avpLength s < 8 → refusedAs BadLength ≡ parsedOf s
+    pub length-under-eight : avpLength s < 8 → refused BadLength ≡ parsedOf s
     unfolding parsedOf avpRefusals
     length-under-eight short = simp (le-ltb _ _ four, le-ltb _ _ five, le-ltb _ _ eight, lt-ltb _ _ short)
 
     -- and a length that counts them
     module _ (counts : 8 ≤ avpLength s) where
-      pub cut-off : length s < avpLength s → (n : ℕ) → n ≡ avpLength s - length s → refusedAs (Incomplete n) ≡ parsedOf s
+      pub cut-off : length s < avpLength s → (n : ℕ) → n ≡ avpLength s - length s → refused (Incomplete n) ≡ parsedOf s
       unfolding parsedOf avpRefusals
       cut-off few n e = simp (le-ltb _ _ four, le-ltb _ _ five, le-ltb _ _ eight, le-ltb _ _ counts, lt-ltb _ _ few, e)
 
       -- and whose bytes are at hand
       module _ (there : avpLength s ≤ length s) where
-        pub length-under-header : avpLength s < headSize (flags s) → refusedAs BadLength ≡ parsedOf s
+        pub length-under-header : avpLength s < headSize (flags s) → refused BadLength ≡ parsedOf s
         unfolding parsedOf avpRefusals
         length-under-header short =
             simp
             (le-ltb _ _ four, le-ltb _ _ five, le-ltb _ _ eight, le-ltb _ _ counts, le-ltb _ _ there, lt-ltb _ _ short)
 
         pub padding-absent : headSize (flags s) ≤ avpLength s → length s < avpSize s → (n : ℕ) → n ≡ avpSize s - length s
-            → refusedAs (Incomplete n) ≡ parsedOf s
+            → refused (Incomplete n) ≡ parsedOf s
         unfolding parsedOf avpRefusals
         padding-absent long few n e =
             simp (

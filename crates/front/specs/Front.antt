@@ -3,9 +3,8 @@
 use Prim.Native.Nat.{ℕ}
 use mathlib.Core.Bool.{cond}
 use mathlib.Core.List.{List}
-use Rattle.refusal.specs.Answer.{Answer, accepted, answer}
+use Rattle.refusal.specs.Answer.{Answer, accepted, refused, answer}
 use Rattle.rfc6733.specs.Avp as rfc
-use Rattle.refusal.specs.Refusals.{refusedAs}
 use Rattle.avp.specs.declared.AVP.{AVP}
 use Rattle.front.specs.declared.First.{First}
 use Rattle.front.specs.declared.First.the-variants.{Whole, Broken}
@@ -29,7 +28,7 @@ firstOf s = cond (rfc.complete s) (Whole (avpOf s)) Broken
 
 unfoldable pub answerOf : ParsedAvp → Answer AVP
 answerOf (Accepted a) = accepted a
-answerOf (Refused r) = refusedAs r
+answerOf (Refused r) = refused r
 
 -- the AVP alone, without what its data are
 unfoldable pub parsedOf : List ℕ → Answer AVP

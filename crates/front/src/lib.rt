@@ -9,7 +9,7 @@ ghost use mathlib.Core.Bool.{false};
 ghost use lib.ListN.{length};
 ghost use Rattle.rfc6733.specs.Avp.{flags, headSize, vendor, complete};
 ghost use Rattle.rfc6733.specs.Records.{tiling};
-ghost use Rattle.refusal.specs.Refusals.{refusedAs};
+ghost use Rattle.refusal.specs.Answer.{refused};
 ghost use Rattle.front.specs.Front.{firstOf, answerOf, parsedOf};
 
 /// What is at the front of a slice, as a run asks it: a complete AVP, or none.
@@ -38,7 +38,7 @@ fn vendor_id(s: &[u8]) -> u32
 // The first refusal, in the order in which the fields are read: the code, the flags, the length, the vendor, the padding.
 fn refusal(s: &[u8]) -> Refusal
     requires { ⌜ complete (now s) ≡ false ⌝ }
-    ensures { λ r. ⌜ refusedAs r ≡ parsedOf (now (s .entry)) ⌝ }
+    ensures { λ r. ⌜ refused r ≡ parsedOf (now (s .entry)) ⌝ }
 {
     let available = s.len();
     if available < AVP::CODE_SIZE {

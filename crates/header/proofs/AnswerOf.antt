@@ -5,7 +5,6 @@ use mathlib.Core.Path.{_≡_, refl, sym, ap, _∙_}
 use Rattle.refusal.specs.Answer.{Answer, accepted, refused}
 use Rattle.rfc6733.specs.Header as rfc
 use Rattle.rfc6733.specs.Decoder.{Message}
-use Rattle.refusal.proofs.Back.{refusal-back, is-back}
 use Rattle.header.specs.declared.Header.{Header}
 use Rattle.header.specs.declared.Parsed.{Parsed}
 use Rattle.header.specs.declared.Parsed.the-variants.{Accepted, Refused}
@@ -25,12 +24,12 @@ header-back h =
 
 abbrev outcome-back : Answer Message → Parsed
 outcome-back (accepted m) = Accepted (header-back (m .header)) (m .counts .errors)
-outcome-back (refused number amount) = Refused (refusal-back number amount)
+outcome-back (refused why) = Refused why
 
 outcome-is-back : (r : Parsed) → outcome-back (answerOf r) ≡ r
 unfolding headerAs answerOf
 outcome-is-back (Accepted h e) = refl
-outcome-is-back (Refused r) = ap Refused (is-back r)
+outcome-is-back (Refused why) = refl
 
 pub header-as-injective : (h h′ : Header) → headerAs h ≡ headerAs h′ → h ≡ h′
 unfolding headerAs

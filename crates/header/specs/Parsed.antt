@@ -1,9 +1,8 @@
 -- What reading a header answers, as an answer of the definition.
 -- Assumes nothing: these are definitions.
-use Rattle.refusal.specs.Answer.{Answer, accepted}
+use Rattle.refusal.specs.Answer.{Answer, accepted, refused}
 use Rattle.rfc6733.specs.Header as rfc
 use Rattle.rfc6733.specs.Decoder.{Message}
-use Rattle.refusal.specs.Refusals.{refusedAs}
 use Rattle.header.specs.declared.Header.{Header}
 use Rattle.header.specs.declared.Parsed.{Parsed}
 use Rattle.header.specs.declared.Parsed.the-variants.{Accepted, Refused}
@@ -25,4 +24,4 @@ headerAs h =
 unfoldable pub answerOf : Parsed → Answer Message
 answerOf (Accepted h e) =
     accepted (record { header = headerAs h; counts = record { errors = e; records = 0; tried = 0; length = rfc.headerSize } })
-answerOf (Refused r) = refusedAs r
+answerOf (Refused r) = refused r

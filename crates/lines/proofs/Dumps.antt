@@ -14,7 +14,7 @@ use Rattle.io.specs.Counts as io
 use Rattle.octets.specs.Octets.{Bytes, over, Put}
 use Rattle.octets.proofs.Lists.{over-length}
 use Rattle.octets.proofs.Numbers.{be-small}
-use Rattle.refusal.specs.Answer.{accepted, refused}
+use Rattle.refusal.specs.Answer.{Refusal, accepted, refused}
 use Rattle.rfc6733.specs.Header.{messageLength}
 use Rattle.rfc6733.specs.Dictionary.{sawp}
 use Rattle.record.specs.Record.{Record, recordSize, recordBytes, laid}
@@ -62,9 +62,9 @@ pub record Stored (s : List ℕ) (c : Counts) (table : List ℕ) : Type 0 where
   pub there : c .records * recordSize ≤ length table
 
 module _ (s front : List ℕ) (front-of : front ≡ take 32768 s) where
-  pub refused-text : (n a : ℕ) → refused n a ≡ decoded sawp 64 1024 front → Text s (refusalText n a)
+  pub refused-text : (why : Refusal) → refused why ≡ decoded sawp 64 1024 front → Text s (refusalText why)
   unfolding dumped dumpText dump
-  refused-text n a e = record { is = rw (← front-of, ← e); short = omega (arith, refusal-short n a) }
+  refused-text why e = record { is = rw (← front-of, ← e); short = omega (arith, refusal-short why) }
 
   module _ (m : Message) (bytes : Bytes front) (e : decoded sawp 64 1024 front ≡ accepted m) where
     abbrev rs : List Record

@@ -8,6 +8,8 @@ use Rattle.octets.proofs.Layouts.{fit-at}
 use Rattle.record.specs.Record.{Record, recordLayout}
 use Rattle.rfc6733.specs.Decoder.{Counts}
 use Rattle.record.specs.Table.{bare}
+use Rattle.refusal.specs.Answer.{Refusal}
+use Rattle.refusal.specs.Refusals.{numberOf, amountOf}
 use Rattle.rfc6733.specs.Dump.{recordLine, recordLines, firstLine, decimal, line, linesText, refusedWord, refusalText}
 use Rattle.round_trip.specs.Tables.{Fits, AllFit}
 use Rattle.round_trip.proofs.Whole.{Valued, AllValued}
@@ -79,8 +81,10 @@ first-short c long few =
     in
     omega arith
 
-pub refusal-short : (n a : ℕ) → length (refusalText n a) ≤ 64
-refusal-short n a =
+pub refusal-short : (why : Refusal) → length (refusalText why) ≤ 64
+refusal-short why =
+    let n = numberOf why in
+    let a = amountOf why in
     omega (
       arith,
       line-short (20 ∷ 20 ∷ []) (n ∷ a ∷ []) (omega arith) (decimal-most n, (decimal-most a, tt)),

@@ -13,7 +13,6 @@ ghost use Rattle.io.specs.Counts.{Counts};
 ghost use Rattle.octets.specs.Octets.{over, Put};
 ghost use Rattle.record.specs.Record.{recordAt};
 ghost use Rattle.rfc6733.specs.Dump.{recordLine, decimal, line, dumped, refusalText};
-ghost use Rattle.refusal.specs.Refusals.{numberOf, amountOf};
 ghost use Rattle.diameter.specs.Answers.{messageAs};
 ghost use Rattle.lines.specs.Text.{Room, recordsText, messageText};
 
@@ -103,8 +102,8 @@ fn put_message(m: Message, table: &[u8], out: &mut [u8]) -> usize
 
 // Puts the line of a refusal.
 fn put_refusal(why: Refusal, out: &mut [u8]) -> usize
-    requires { ⌜ length (refusalText (numberOf why) (amountOf why)) ≤ length (now out) ⌝ }
-    ensures { λ r. ⌜ Put r (refusalText (numberOf why) (amountOf why)) (now (out .entry)) (now (out .exit)) ⌝ }
+    requires { ⌜ length (refusalText why) ≤ length (now out) ⌝ }
+    ensures { λ r. ⌜ Put r (refusalText why) (now (out .entry)) (now (out .exit)) ⌝ }
 {
     let numbers = [why.number() as u64, why.amount() as u64];
     let at = bytes::copy(b"refused ", out);

@@ -1,5 +1,5 @@
--- Calls of the functions of which the demands speak, with their parameters by name and in the source's order. Each is the contract of
--- the function as the check reads it from the source (`Post`), at its arguments, its answer, and the slice that it may change as it leaves it.
+-- Calls of the functions that may change what is lent, with their parameters by name and in the source's order. Each is the contract of
+-- the function as the check reads it from the source (`Post`), at its arguments, its answer, and what it may change as it leaves it.
 -- Assumes nothing: these are definitions.
 use Prim.Native.Nat.{ℕ}
 use mathlib.Core.Bool.{Bool}
@@ -7,14 +7,20 @@ use mathlib.Core.List.{List}
 use contract.Lifetimes.{Lfts}
 use denote.Ref.{RefT}
 use Rattle.attribute.specs.declared.Reading.{Reading}
+use Rattle.attribute.specs.declared.Dictionary.{Dictionary}
+use Rattle.record.specs.Record.{Record}
+use Rattle.record.proofs.Record.put.Reads as put
 use Rattle.avps.specs.declared.Filled.{Filled}
+use Rattle.avps.proofs.parse_avps.Reads as parse-avps
 use Rattle.diameter.specs.declared.Decoded.{Decoded}
 use Rattle.diameter.proofs.parse.Reads as parse
 use Rattle.diameter.proofs.parse_avp.Reads as parse-avp
+use Rattle.lines.proofs.dump.Reads as dump
 use Rattle.writer.specs.declared.Fields.{Fields}
 use Rattle.writer.specs.declared.Written.{Written}
 use Rattle.writer.proofs.write.Reads as write
 use Rattle.tandrekily.proofs.tandrekily_message.Reads as tandrekily-message
+use Rattle.tandrekily.proofs.tandrekily_header.Reads as tandrekily-header
 use Rattle.tandrekily.proofs.tandrekily_avp.Reads as tandrekily-avp
 use Rattle.tandrekily.proofs.tandrekily_write.Reads as tandrekily-write
 
@@ -22,11 +28,21 @@ use Rattle.tandrekily.proofs.tandrekily_write.Reads as tandrekily-write
 abbrev pub Slice : Type 0
 Slice = RefT (List ℕ)
 
+abbrev pub RecordPut : Lfts 1 → Record → Slice → Bool → Slice → Type 0
+RecordPut κs self store r store′ = put.Post κs (self, (store, tt)) r (self, (store′, tt))
+
+abbrev pub ParseAvps : Lfts 3 → Dictionary → Slice → ℕ → Slice → ℕ → Slice → Filled → Slice → Type 0
+ParseAvps κs d kinds limit s place store r store′ =
+    parse-avps.Post κs (d, (kinds, (limit, (s, (place, (store, tt)))))) r (d, (kinds, (limit, (s, (place, (store′, tt))))))
+
 abbrev pub Parse : Lfts 2 → Reading → ℕ → Slice → Slice → Decoded → Slice → Type 0
 Parse κs reading limit input store r store′ = parse.Post κs (reading, (limit, (input, (store, tt)))) r (reading, (limit, (input, (store′, tt))))
 
 abbrev pub ParseAvp : Lfts 2 → Reading → ℕ → Slice → Slice → Filled → Slice → Type 0
 ParseAvp κs reading limit input store r store′ = parse-avp.Post κs (reading, (limit, (input, (store, tt)))) r (reading, (limit, (input, (store′, tt))))
+
+abbrev pub Dump : Lfts 2 → Slice → Slice → ℕ → Slice → Type 0
+Dump κs input out r out′ = dump.Post κs (input, (out, tt)) r (input, (out′, tt))
 
 abbrev pub Write : Lfts 3 → Fields → Slice → Slice → Slice → Written → Slice → Type 0
 Write κs fields table pool out r out′ = write.Post κs (fields, (table, (pool, (out, tt)))) r (fields, (table, (pool, (out′, tt))))
@@ -34,6 +50,9 @@ Write κs fields table pool out r out′ = write.Post κs (fields, (table, (pool
 abbrev pub TandrekilyMessage : Lfts 3 → Bool → ℕ → Slice → Slice → Slice → Slice → Slice → Type 0
 TandrekilyMessage κs rfc limit input store result store′ result′ =
     tandrekily-message.Post κs (rfc, (limit, (input, (store, (result, tt))))) tt (rfc, (limit, (input, (store′, (result′, tt)))))
+
+abbrev pub TandrekilyHeader : Lfts 2 → Slice → Slice → Slice → Type 0
+TandrekilyHeader κs input result result′ = tandrekily-header.Post κs (input, (result, tt)) tt (input, (result′, tt))
 
 abbrev pub TandrekilyAvp : Lfts 3 → Bool → ℕ → Slice → Slice → Slice → Slice → Slice → Type 0
 TandrekilyAvp κs rfc limit input store result store′ result′ =

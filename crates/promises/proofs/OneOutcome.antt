@@ -1,8 +1,16 @@
 -- Every public function of every crate has one outcome: no second result meets its contract at the same arguments. `Post` is the
 -- contract as the check reads it from the source, so a contract that says less no longer proves its line here.
 -- Assumes nothing.
+use Prim.Native.Nat.{ℕ}
 use mathlib.Core.Path.{_≡_, sym, _∙_}
+use mathlib.Core.Bool.{Bool}
+use contract.Lifetimes.{Lfts}
 use denote.Ref.{now}
+use Rattle.attribute.specs.declared.Reading.{Reading}
+use Rattle.attribute.specs.declared.Dictionary.{Dictionary}
+use Rattle.record.specs.Record.{Record}
+use Rattle.writer.specs.declared.Fields.{Fields}
+use Rattle.promises.proofs.Calls.{Slice, RecordPut, ParseAvps, Parse, ParseAvp, Dump, Write, TandrekilyMessage, TandrekilyHeader, TandrekilyAvp, TandrekilyWrite}
 use Rattle.octets.proofs.be_u16.Reads as be-u16
 use Rattle.octets.proofs.be_u24.Reads as be-u24
 use Rattle.octets.proofs.be_u32.Reads as be-u32
@@ -41,7 +49,6 @@ use Rattle.avp.proofs.AVP.padding.Reads as padding
 use Rattle.front.proofs.first_avp.Reads as complete
 use Rattle.front.proofs.parse.Reads as head
 use Rattle.front.proofs.tiles.Reads as tiles
-use Rattle.record.proofs.Record.put.Reads as record-put
 use Rattle.record.proofs.Record.get.Reads as record-get
 use Rattle.record.proofs.Record.read.Reads as record-read
 use Rattle.value.proofs.Value.new.Reads as value-new
@@ -49,22 +56,12 @@ use Rattle.value.proofs.Value.kind.Reads as value-kind
 use Rattle.value.proofs.Value.number.Reads as value-number
 use Rattle.count.proofs.allowed.Reads as allowed
 use Rattle.count.proofs.count_run.Reads as count-run
-use Rattle.avps.proofs.parse_avps.Reads as parse-avps
-use Rattle.diameter.proofs.parse.Reads as parse
-use Rattle.diameter.proofs.parse_avp.Reads as parse-avp
-use Rattle.lines.proofs.dump.Reads as dump
 use Rattle.rules.proofs.header_size.Reads as record-header-size
 use Rattle.rules.proofs.keepers.Reads as keepers
-use Rattle.writer.proofs.write.Reads as write
-use Rattle.tandrekily.proofs.tandrekily_message.Reads as tandrekily-message
-use Rattle.tandrekily.proofs.tandrekily_header.Reads as tandrekily-header
-use Rattle.tandrekily.proofs.tandrekily_avp.Reads as tandrekily-avp
-use Rattle.tandrekily.proofs.tandrekily_write.Reads as tandrekily-write
 use Rattle.tandrekily.proofs.tandrekily_is_utf8.Reads as tandrekily-is-utf8
 use Rattle.tandrekily.proofs.tandrekily_unix_seconds.Reads as tandrekily-unix-seconds
 use Rattle.header.proofs.AnswerOf as header-answers
 use Rattle.front.proofs.AnswerOf as front-answers
-use Rattle.record.proofs.RecordAs.{record-as-injective}
 use Rattle.value.proofs.ReadAs.{one-value}
 use Rattle.count.proofs.AnswerOf as count-answers
 use Rattle.avps.proofs.AnswerOf as avps-answers
@@ -75,6 +72,15 @@ use Rattle.writer.proofs.AnswerOf as writer-answers
 -- stand with the lifetimes of the call, and with the parameters at exit.
 abbrev Single {i j k l m} : {K : Type i} {A : K → Type j} {R : K → Type k} {S : K → Type l} → ((κs : K) → A κs → R κs → S κs → Type m) → Type (i ⊔ j ⊔ k ⊔ l ⊔ m)
 Single {K = K} {A = A} {R = R} {S = S} Post = (κs : K) (a : A κs) (r r′ : R κs) (s : S κs) → Post κs a r s → Post κs a r′ s → r ≡ r′
+
+-- And where it may change a slice: the results are the same, and what the slice holds afterwards.
+abbrev Settled : {R : Type 0} → (R → Slice → Type 0) → Type 0
+Settled {R = R} Call = (r r′ : R) (after after′ : Slice) → Call r after → Call r′ after′ → (r ≡ r′) × (now after ≡ now after′)
+
+-- The library answers by a slice too: what each of the two holds afterwards is the same.
+abbrev BothSettled : (Slice → Slice → Type 0) → Type 0
+BothSettled Call =
+    (after after′ result result′ : Slice) → Call after result → Call after′ result′ → (now after ≡ now after′) × (now result ≡ now result′)
 
 -- ---- octets
 
@@ -210,16 +216,14 @@ tiles-one κs a r r′ s p q = p ∙ sym q
 
 -- ---- record
 
--- the store, the second parameter, is told too
-record-put-one : (κs : _) (a : _) (r r′ : _) (s s′ : _) → record-put.Post κs a r s → record-put.Post κs a r′ s′
-    → (r ≡ r′) × (now (s .1 .0) ≡ now (s′ .1 .0))
-record-put-one κs a r r′ s s′ p q = (p .0 ∙ sym (q .0), p .1 ∙ sym (q .1))
+record-put-one : (κs : Lfts 1) (self : Record) (store : Slice) → Settled (RecordPut κs self store)
+record-put-one κs self store r r′ after after′ p q = (p .0 ∙ sym (q .0), p .1 ∙ sym (q .1))
 
 record-get-one : Single record-get.Post
-record-get-one κs a r r′ s p q = record-as-injective r r′ (p ∙ sym q)
+record-get-one κs a r r′ s p q = p ∙ sym q
 
 record-read-one : Single record-read.Post
-record-read-one κs a r r′ s p q = record-as-injective r r′ (p ∙ sym q)
+record-read-one κs a r r′ s p q = p ∙ sym q
 
 -- ---- value
 
@@ -240,39 +244,36 @@ allowed-one κs a r r′ s p q = p ∙ sym q
 count-run-one : Single count-run.Post
 count-run-one κs a r r′ s p q = count-answers.answer-of-injective r r′ (p ∙ sym q)
 
--- ---- avps: the store, the sixth parameter, is told too
+-- ---- avps
 
-parse-avps-one : (κs : _) (a : _) (r r′ : _) (s s′ : _) → parse-avps.Post κs a r s → parse-avps.Post κs a r′ s′
-    → (r ≡ r′) × (now (s .1 .1 .1 .1 .1 .0) ≡ now (s′ .1 .1 .1 .1 .1 .0))
-parse-avps-one κs a r r′ s s′ p q =
+parse-avps-one : (κs : Lfts 3) (d : Dictionary) (kinds : Slice) (limit : ℕ) (s : Slice) (place : ℕ) (store : Slice)
+    → Settled (ParseAvps κs d kinds limit s place store)
+parse-avps-one κs d kinds limit s place store r r′ after after′ p q =
     let e = avps-answers.answer-of-injective r r′ (p .0 ∙ sym (q .0)) in
     let at-exit = p .1 in
     let at-exit′ = q .1 in
     (e, cc)
 
--- ---- diameter: the store, the fourth parameter, is told too
+-- ---- diameter
 
-parse-one : (κs : _) (a : _) (r r′ : _) (s s′ : _) → parse.Post κs a r s → parse.Post κs a r′ s′
-    → (r ≡ r′) × (now (s .1 .1 .1 .0) ≡ now (s′ .1 .1 .1 .0))
-parse-one κs a r r′ s s′ p q =
+parse-one : (κs : Lfts 2) (reading : Reading) (limit : ℕ) (input store : Slice) → Settled (Parse κs reading limit input store)
+parse-one κs reading limit input store r r′ after after′ p q =
     let e = diameter-answers.answer-of-injective r r′ (p .0 ∙ sym (q .0)) in
     let at-exit = p .1 in
     let at-exit′ = q .1 in
     (e, cc)
 
-parse-avp-one : (κs : _) (a : _) (r r′ : _) (s s′ : _) → parse-avp.Post κs a r s → parse-avp.Post κs a r′ s′
-    → (r ≡ r′) × (now (s .1 .1 .1 .0) ≡ now (s′ .1 .1 .1 .0))
-parse-avp-one κs a r r′ s s′ p q =
+parse-avp-one : (κs : Lfts 2) (reading : Reading) (limit : ℕ) (input store : Slice) → Settled (ParseAvp κs reading limit input store)
+parse-avp-one κs reading limit input store r r′ after after′ p q =
     let e = avps-answers.answer-of-injective r r′ (p .0 ∙ sym (q .0)) in
     let at-exit = p .1 in
     let at-exit′ = q .1 in
     (e, cc)
 
--- ---- lines: the text, in the second parameter, is told too
+-- ---- lines
 
-dump-one : (κs : _) (a : _) (r r′ : _) (s s′ : _) → dump.Post κs a r s → dump.Post κs a r′ s′
-    → (r ≡ r′) × (now (s .1 .0) ≡ now (s′ .1 .0))
-dump-one κs a r r′ s s′ p q = (p .1 .0 ∙ sym (q .1 .0), p .0 ∙ sym (q .0))
+dump-one : (κs : Lfts 2) (input out : Slice) → Settled (Dump κs input out)
+dump-one κs input out r r′ after after′ p q = (p .1 .0 ∙ sym (q .1 .0), p .0 ∙ sym (q .0))
 
 -- ---- rules
 
@@ -282,33 +283,32 @@ record-header-size-one κs a r r′ s p q = p ∙ sym q
 keepers-one : Single keepers.Post
 keepers-one κs a r r′ s p q = p ∙ sym q
 
--- ---- writer: the output, the fourth parameter, is told too
+-- ---- writer
 
-write-one : (κs : _) (a : _) (r r′ : _) (s s′ : _) → write.Post κs a r s → write.Post κs a r′ s′
-    → (r ≡ r′) × (now (s .1 .1 .1 .0) ≡ now (s′ .1 .1 .1 .0))
-write-one κs a r r′ s s′ p q =
+write-one : (κs : Lfts 3) (fields : Fields) (table pool out : Slice) → Settled (Write κs fields table pool out)
+write-one κs fields table pool out r r′ after after′ p q =
     let e = writer-answers.answer-of-injective r r′ (p .0 ∙ sym (q .0)) in
     let at-exit = p .1 in
     let at-exit′ = q .1 in
     (e, cc)
 
--- ---- tandrekily: it answers by its result, the last parameter, and the lent bytes, the one before, are told too
+-- ---- tandrekily
 
-tandrekily-message-one : (κs : _) (a : _) (r r′ : _) (s s′ : _) → tandrekily-message.Post κs a r s → tandrekily-message.Post κs a r′ s′
-    → (now (s .1 .1 .1 .1 .0) ≡ now (s′ .1 .1 .1 .1 .0)) × (now (s .1 .1 .1 .0) ≡ now (s′ .1 .1 .1 .0))
-tandrekily-message-one κs a r r′ s s′ p q = (p .0 ∙ sym (q .0), p .1 ∙ sym (q .1))
+tandrekily-message-one : (κs : Lfts 3) (rfc : Bool) (limit : ℕ) (input store result : Slice)
+    → BothSettled (TandrekilyMessage κs rfc limit input store result)
+tandrekily-message-one κs rfc limit input store result _ _ _ _ p q = (p .1 ∙ sym (q .1), p .0 ∙ sym (q .0))
 
-tandrekily-header-one : (κs : _) (a : _) (r r′ : _) (s s′ : _) → tandrekily-header.Post κs a r s → tandrekily-header.Post κs a r′ s′
-    → now (s .1 .0) ≡ now (s′ .1 .0)
-tandrekily-header-one κs a r r′ s s′ p q = p ∙ sym q
+tandrekily-header-one : (κs : Lfts 2) (input result after after′ : Slice) → TandrekilyHeader κs input result after
+    → TandrekilyHeader κs input result after′ → now after ≡ now after′
+tandrekily-header-one κs input result after after′ p q = p ∙ sym q
 
-tandrekily-avp-one : (κs : _) (a : _) (r r′ : _) (s s′ : _) → tandrekily-avp.Post κs a r s → tandrekily-avp.Post κs a r′ s′
-    → (now (s .1 .1 .1 .1 .0) ≡ now (s′ .1 .1 .1 .1 .0)) × (now (s .1 .1 .1 .0) ≡ now (s′ .1 .1 .1 .0))
-tandrekily-avp-one κs a r r′ s s′ p q = (p .0 ∙ sym (q .0), p .1 ∙ sym (q .1))
+tandrekily-avp-one : (κs : Lfts 3) (rfc : Bool) (limit : ℕ) (input store result : Slice)
+    → BothSettled (TandrekilyAvp κs rfc limit input store result)
+tandrekily-avp-one κs rfc limit input store result _ _ _ _ p q = (p .1 ∙ sym (q .1), p .0 ∙ sym (q .0))
 
-tandrekily-write-one : (κs : _) (a : _) (r r′ : _) (s s′ : _) → tandrekily-write.Post κs a r s → tandrekily-write.Post κs a r′ s′
-    → (now (s .1 .1 .1 .1 .1 .1 .1 .1 .0) ≡ now (s′ .1 .1 .1 .1 .1 .1 .1 .1 .0)) × (now (s .1 .1 .1 .1 .1 .1 .1 .0) ≡ now (s′ .1 .1 .1 .1 .1 .1 .1 .0))
-tandrekily-write-one κs a r r′ s s′ p q = (p .0 ∙ sym (q .0), p .1 ∙ sym (q .1))
+tandrekily-write-one : (κs : Lfts 4) (flags code appId hopId endId : ℕ) (table pool out result : Slice)
+    → BothSettled (TandrekilyWrite κs flags code appId hopId endId table pool out result)
+tandrekily-write-one κs flags code appId hopId endId table pool out result _ _ _ _ p q = (p .1 ∙ sym (q .1), p .0 ∙ sym (q .0))
 
 tandrekily-is-utf8-one : Single tandrekily-is-utf8.Post
 tandrekily-is-utf8-one κs a r r′ s p q = p ∙ sym q

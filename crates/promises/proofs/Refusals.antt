@@ -9,12 +9,11 @@ use native.Mathlib.Omega.{arith}
 use lib.ListN.{getD}
 use contract.Lifetimes.{Lfts}
 use denote.Ref.{now}
-use Rattle.refusal.specs.Answer.{Answer, accepted, refused}
+use Rattle.refusal.specs.Answer.{Refusal, Answer, accepted, refused}
 use Rattle.record.specs.Record.{Record}
 use Rattle.rfc6733.specs.Decoder.{Counts, Message}
 use Rattle.record.specs.Store.{stored}
 use Rattle.rfc6733.specs.Writer.{output}
-use Rattle.refusal.specs.declared.Refusal.{Refusal}
 use Rattle.attribute.specs.declared.Reading.{Reading}
 use Rattle.avps.specs.declared.Filled.the-variants as avps
 use Rattle.avps.specs.Answers as avps-answers
@@ -50,22 +49,22 @@ number result = getD result 0 0
 
 -- An acceptance is shown by the number 0 and a refusal leaves what was lent, so another number is shown only where it is left.
 lent-unless-0 : {A : Type 0} (shown left : Answer A → List ℕ) (lent : List ℕ)
-    → ((x : A) → number (shown (accepted x)) ≡ 0) → ((n a : ℕ) → left (refused n a) ≡ lent)
+    → ((x : A) → number (shown (accepted x)) ≡ 0) → ((why : Refusal) → left (refused why) ≡ lent)
     → (x : Answer A) → 1 ≤ number (shown x) → left x ≡ lent
 lent-unless-0 shown left lent zero same (accepted x) h = let z = zero x in absurd (omega arith)
-lent-unless-0 shown left lent zero same (refused n a) h = same n a
+lent-unless-0 shown left lent zero same (refused why) h = same why
 
 message-store : (x : Answer Message) (rs : List Record) (store : List ℕ) → 1 ≤ number (messageResult x) → stored x rs store ≡ store
 unfolding messageResult stored
-message-store x rs store = lent-unless-0 messageResult (λ y. stored y rs store) store (λ m. refl) (λ n a. refl) x
+message-store x rs store = lent-unless-0 messageResult (λ y. stored y rs store) store (λ m. refl) (λ why. refl) x
 
 avp-store : (x : Answer Counts) (rs : List Record) (store : List ℕ) → 1 ≤ number (avpResult x) → stored x rs store ≡ store
 unfolding avpResult stored
-avp-store x rs store = lent-unless-0 avpResult (λ y. stored y rs store) store (λ c. refl) (λ n a. refl) x
+avp-store x rs store = lent-unless-0 avpResult (λ y. stored y rs store) store (λ c. refl) (λ why. refl) x
 
 written-out : (x : Answer ℕ) (message out : List ℕ) → 1 ≤ number (writtenResult x) → output x message out ≡ out
 unfolding writtenResult output
-written-out x message out = lent-unless-0 writtenResult (λ y. output y message out) out (λ total. refl) (λ n a. refl) x
+written-out x message out = lent-unless-0 writtenResult (λ y. output y message out) out (λ total. refl) (λ why. refl) x
 
 pub tandrekily-message-refusal-changes-nothing : (κs : Lfts 3) (rfc : Bool) (limit : ℕ) (input store result store′ result′ : Slice)
     → TandrekilyMessage κs rfc limit input store result store′ result′ → 1 ≤ number (now result′) → now store′ ≡ now store

@@ -3,7 +3,6 @@ pub mod Absent
 pub mod Copied
 pub mod Fields
 pub mod LastFirst
-pub mod RecordAs
 pub mod Room
 pub mod Turned
 pub mod Whole

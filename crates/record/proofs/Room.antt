@@ -11,7 +11,7 @@ use lib.Dec.{leb}
 use borrow.Author.Tests.{le-leb, lt-leb}
 use Rattle.octets.specs.Octets.{octets, pack, over}
 use Rattle.record.specs.Record.{Record, recordSize, layout, recordBytes}
-use Rattle.record.specs.Stored.{put}
+use Rattle.record.specs.Store.{put}
 
 module _ (r : Record) (s : List ℕ) where
   pub no-room : length s < recordSize → (false ≡ leb recordSize (length s)) × (s ≡ put r s)

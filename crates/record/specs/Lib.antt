@@ -3,4 +3,3 @@ pub mod Record
 pub mod Table
 pub mod Forest
 pub mod Store
-pub mod Stored

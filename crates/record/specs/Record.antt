@@ -3,22 +3,12 @@
 use Prim.Native.Nat.{ℕ}
 use mathlib.Core.List.{List, [], _∷_, _++_}
 use lib.ListN.{getD}
+use Rattle.record.specs.declared.Record as declared
 use Rattle.octets.specs.Octets.{Field, pack, Layout, total, fieldsOf, valueAt}
 
-pub record Record : Type 0 where
-  pub code : ℕ
-  pub flags : ℕ
-  pub length : ℕ
-  pub vendor : ℕ
-  -- of the data in the input
-  pub place : ℕ
-  pub depth : ℕ
-  pub kind : ℕ
-  pub errors : ℕ
-  -- how many bytes of padding, and those bytes as a number of three, the unused ones 0
-  pub padding : ℕ
-  pub pads : ℕ
-  pub value : ℕ
+-- a record is what the struct of record/src/lib.rt is
+abbrev pub Record : Type 0
+Record = declared.Record
 
 -- the layout; byte 23 is zero
 abbrev pub recordLayout : Layout Record

@@ -1,10 +1,13 @@
 -- A store that is lent for records: how many it has room for, and what it holds after an answer (docs/FORMAT.md, 6.3).
 -- Assumes nothing: these are definitions.
 use Prim.Native.Nat.{ℕ, _-_, _/_}
+use mathlib.Core.Bool.{cond}
 use mathlib.Core.List.{List, _++_}
 use lib.ListN.{length, replicate}
+use lib.Dec.{leb}
+use Rattle.octets.specs.Octets.{over}
 use Rattle.refusal.specs.Answer.{Answer, accepted, refused}
-use Rattle.record.specs.Record.{Record, recordSize, laid}
+use Rattle.record.specs.Record.{Record, recordSize, recordBytes, laid}
 
 -- how many records a store of n bytes has room for
 abbrev pub capacity : ℕ → ℕ
@@ -14,7 +17,11 @@ capacity n = n / recordSize
 abbrev pub room : List ℕ → ℕ
 room store = capacity (length store)
 
+-- a record over the front of a store that has room for it; one that has none stays as lent
+unfoldable pub put : Record → List ℕ → List ℕ
+put r store = cond (leb recordSize (length store)) (over (recordBytes r) store) store
+
 -- the records and zero to its last byte where they were accepted, and as lent where not
 unfoldable pub stored : {A : Type 0} → Answer A → List Record → List ℕ → List ℕ
 stored (accepted x) rs store = laid rs ++ replicate (length store - length (laid rs)) 0
-stored (refused n a) rs store = store
+stored (refused why) rs store = store

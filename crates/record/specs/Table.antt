@@ -5,9 +5,9 @@ use mathlib.Core.List.{List, [], _∷_}
 use lib.ListN.{length, drop}
 use Rattle.record.specs.Record.{Record, recordSize, recordAt}
 
--- the writer takes neither error flags nor value
-unfoldable pub bare : Record → Record
-bare r =
+-- a record with other error flags and another value
+abbrev pub withBoth : Record → ℕ → ℕ → Record
+withBoth r errors value =
     record {
       code = r .code;
       flags = r .flags;
@@ -16,11 +16,15 @@ bare r =
       place = r .place;
       depth = r .depth;
       kind = r .kind;
-      errors = 0;
+      errors = errors;
       padding = r .padding;
       pads = r .pads;
-      value = 0;
+      value = value;
     }
+
+-- the writer takes neither
+unfoldable pub bare : Record → Record
+bare r = withBoth r 0 0
 
 -- the record at the front of a table, as it takes it
 unfoldable pub entryAt : List ℕ → Record

@@ -11,7 +11,7 @@ ghost use lib.Dec.{leb};
 ghost use Rattle.octets.specs.Octets.{octets, pack, over};
 ghost use Rattle.record.specs.Record.{recordSize, layout, recordAt};
 ghost use Rattle.record.specs.Table.{entryAt};
-ghost use Rattle.record.specs.Stored.{recordAs, put};
+ghost use Rattle.record.specs.Store.{put};
 
 pub struct Record {
     pub code: u32,
@@ -102,7 +102,7 @@ impl Record {
     // The fields of the AVP's header (RFC 6733, section 4.1).
     fn put_header(self, store: &mut [u8])
         requires { ⌜ recordSize ≤ length (now store) ⌝ }
-        ensures { λ _. ⌜ now (store .exit) ≡ sets (now (store .entry)) 0 (pack (take 4 (layout (recordAs self)))) ⌝ }
+        ensures { λ _. ⌜ now (store .exit) ≡ sets (now (store .entry)) 0 (pack (take 4 (layout self))) ⌝ }
     {
         put_u32(store, 0, self.code);
         put_u8_u24(store, 4, self.flags, self.length);
@@ -112,7 +112,7 @@ impl Record {
     // What was found of its data; byte 23 is zero.
     fn put_data(self, store: &mut [u8])
         requires { ⌜ recordSize ≤ length (now store) ⌝ }
-        ensures { λ _. ⌜ now (store .exit) ≡ sets (now (store .entry)) 12 (pack (drop 4 (layout (recordAs self)))) ⌝ }
+        ensures { λ _. ⌜ now (store .exit) ≡ sets (now (store .entry)) 12 (pack (drop 4 (layout self))) ⌝ }
     {
         put_u32(store, 12, self.place);
         put_u8(store, 16, self.depth);
@@ -126,7 +126,7 @@ impl Record {
     /// Puts the record at the front of a store, if there is room. Of a length or padding over 24 bits it puts the lowest 24.
     pub fn put(self, store: &mut [u8]) -> bool
         ensures is { λ r. ⌜ r ≡ leb recordSize (length (now (store .entry))) ⌝ }
-        ensures store { λ r. ⌜ now (store .exit) ≡ put (recordAs self) (now (store .entry)) ⌝ }
+        ensures store { λ r. ⌜ now (store .exit) ≡ put self (now (store .entry)) ⌝ }
     {
         if store.len() < Self::SIZE {
             return false;
@@ -151,7 +151,7 @@ impl Record {
     // Bytes 18, 23 and 24 to 31 are not read.
     fn fields(table: &[u8]) -> Record
         requires { ⌜ recordSize ≤ length (now table) ⌝ }
-        ensures { λ r. ⌜ recordAs r ≡ entryAt (now (table .entry)) ⌝ }
+        ensures { λ r. ⌜ r ≡ entryAt (now (table .entry)) ⌝ }
     {
         Record {
             code: octets::be_u32(table[0], table[1], table[2], table[3]),
@@ -171,7 +171,7 @@ impl Record {
     /// The record at the front of a table, as the writer takes it: with no errors and no value.
     /// A byte that is absent counts as 0.
     pub fn get(table: &[u8]) -> Record
-        ensures { λ r. ⌜ recordAs r ≡ entryAt (now (table .entry)) ⌝ }
+        ensures { λ r. ⌜ r ≡ entryAt (now (table .entry)) ⌝ }
     {
         if table.len() < Self::SIZE {
             return Self::fields(&Self::padded(table));
@@ -182,7 +182,7 @@ impl Record {
     // Bytes 18 and 24 to 31 besides, the error flags and the value.
     fn all_fields(table: &[u8]) -> Record
         requires { ⌜ recordSize ≤ length (now table) ⌝ }
-        ensures { λ r. ⌜ recordAs r ≡ recordAt (now (table .entry)) ⌝ }
+        ensures { λ r. ⌜ r ≡ recordAt (now (table .entry)) ⌝ }
     {
         let mut r = Self::fields(table);
         r.errors = table[18];
@@ -201,7 +201,7 @@ impl Record {
 
     /// The whole record at the front of a table. A byte that is absent counts as 0.
     pub fn read(table: &[u8]) -> Record
-        ensures { λ r. ⌜ recordAs r ≡ recordAt (now (table .entry)) ⌝ }
+        ensures { λ r. ⌜ r ≡ recordAt (now (table .entry)) ⌝ }
     {
         if table.len() < Self::SIZE {
             return Self::all_fields(&Self::padded(table));

@@ -1,22 +1,16 @@
 -- An acceptance is given exactly where no refusal is, and returns what it was to return.
 -- Assumes nothing.
 use Prim.Native.Nat.{ℕ, _≤_}
-use mathlib.Core.Path.{_≡_, refl, sym, ap, ap₂, _∙_}
+use mathlib.Core.Path.{_≡_, refl, sym, ap, _∙_}
 use mathlib.Core.Bool.{Bool, true, false, cond, not, _&&_}
 use mathlib.Core.List.{List, [], _∷_, _++_, append-nil}
 use native.Mathlib.Omega.{arith}
 use lib.Dec.{ltb}
 use borrow.Author.Tests.{ltb-false, le-ltb, not-true, not-false}
 use Rattle.octets.proofs.Runs.{false-true}
-use Rattle.refusal.specs.Answer.{Answer, accepted, refused, Refusal, answer, passes}
+use Rattle.refusal.specs.Answer.{Refusal, Answer, accepted, refused, Test, answer, passes}
 
-same-number : {A : Type 0} {m n a b : ℕ} → _≡_ {A = Answer A} (refused m a) (refused n b) → m ≡ n
-same-number e = cc
-
-same-amount : {A : Type 0} {m n a b : ℕ} → _≡_ {A = Answer A} (refused m a) (refused n b) → a ≡ b
-same-amount e = cc
-
-pub not-accepted : {A : Type 0} {n a : ℕ} {x : A} → refused n a ≡ accepted x → ⊥
+pub not-accepted : {A : Type 0} {why : Refusal} {x : A} → refused why ≡ accepted x → ⊥
 not-accepted e = let z : _≡_ {A = ℕ} 0 1 = cc in omega arith
 
 -- both of two tests
@@ -38,25 +32,25 @@ pub kept-not : (b : Bool) → not (not b) ≡ true → b ≡ true
 kept-not b e = not-false b (not-true (not b) e)
 
 module _ {A : Type 0} where
-  pub passed : (rs : List Refusal) (x y : A) → answer rs x ≡ accepted y → (passes rs ≡ true) × (x ≡ y)
+  pub passed : (rs : List Test) (x y : A) → answer rs x ≡ accepted y → (passes rs ≡ true) × (x ≡ y)
   passed [] x y e = (refl, cc)
   passed (r ∷ rs) x y e = by (r .given) (passed rs x y) e
     where
       by : (b : Bool) → (answer rs x ≡ accepted y → (passes rs ≡ true) × (x ≡ y))
-          → cond b (refused (r .number) (r .amount)) (answer rs x) ≡ accepted y → (not b && passes rs ≡ true) × (x ≡ y)
+          → cond b (refused (r .refusal)) (answer rs x) ≡ accepted y → (not b && passes rs ≡ true) × (x ≡ y)
       by true rest f = absurd (not-accepted f)
       by false rest f = rest f
 
-  pub accepts : (rs : List Refusal) (x : A) → passes rs ≡ true → answer rs x ≡ accepted x
+  pub accepts : (rs : List Test) (x : A) → passes rs ≡ true → answer rs x ≡ accepted x
   accepts [] x e = refl
   accepts (r ∷ rs) x e = by (r .given) (accepts rs x) e
     where
       by : (b : Bool) → (passes rs ≡ true → answer rs x ≡ accepted x) → not b && passes rs ≡ true
-          → cond b (refused (r .number) (r .amount)) (answer rs x) ≡ accepted x
+          → cond b (refused (r .refusal)) (answer rs x) ≡ accepted x
       by true rest f = absurd (false-true f)
       by false rest f = rest f
 
-pub passes-append : (rs ts : List Refusal) → passes (rs ++ ts) ≡ passes rs && passes ts
+pub passes-append : (rs ts : List Test) → passes (rs ++ ts) ≡ passes rs && passes ts
 passes-append [] ts = refl
 passes-append (r ∷ rs) ts = by (r .given) (passes-append rs ts)
   where
@@ -66,26 +60,26 @@ passes-append (r ∷ rs) ts = by (r .given) (passes-append rs ts)
 
 -- ---- refusals before others
 
-pub answer-past : {A : Type 0} (rs ts : List Refusal) (x : A) → passes rs ≡ true → answer (rs ++ ts) x ≡ answer ts x
+pub answer-past : {A : Type 0} (rs ts : List Test) (x : A) → passes rs ≡ true → answer (rs ++ ts) x ≡ answer ts x
 answer-past [] ts x e = refl
 answer-past (r ∷ rs) ts x e = by (r .given) (answer-past rs ts x) e
   where
     by : (b : Bool) → (passes rs ≡ true → answer (rs ++ ts) x ≡ answer ts x) → not b && passes rs ≡ true
-        → cond b (refused (r .number) (r .amount)) (answer (rs ++ ts) x) ≡ answer ts x
+        → cond b (refused (r .refusal)) (answer (rs ++ ts) x) ≡ answer ts x
     by true rest f = absurd (false-true f)
     by false rest f = rest f
 
 -- what was refused before is refused with any others after
-pub answer-first : {A B : Type 0} (rs ts : List Refusal) (x : A) (y : B) (n a : ℕ) → answer rs x ≡ refused n a → answer (rs ++ ts) y ≡ refused n a
-answer-first [] ts x y n a e = absurd (not-accepted (sym e))
-answer-first (r ∷ rs) ts x y n a e = by (r .given) (answer-first rs ts x y n a) e
+pub answer-first : {A B : Type 0} (rs ts : List Test) (x : A) (y : B) (why : Refusal) → answer rs x ≡ refused why → answer (rs ++ ts) y ≡ refused why
+answer-first [] ts x y why e = absurd (not-accepted (sym e))
+answer-first (r ∷ rs) ts x y why e = by (r .given) (answer-first rs ts x y why) e
   where
-    by : (b : Bool) → (answer rs x ≡ refused n a → answer (rs ++ ts) y ≡ refused n a)
-        → cond b (refused (r .number) (r .amount)) (answer rs x) ≡ refused n a
-        → cond b (refused (r .number) (r .amount)) (answer (rs ++ ts) y) ≡ refused n a
-    by true rest f = ap₂ refused (same-number f) (same-amount f)
+    by : (b : Bool) → (answer rs x ≡ refused why → answer (rs ++ ts) y ≡ refused why)
+        → cond b (refused (r .refusal)) (answer rs x) ≡ refused why
+        → cond b (refused (r .refusal)) (answer (rs ++ ts) y) ≡ refused why
+    by true rest f = cc
     by false rest f = rest f
 
 -- the same refusals give the same refusal, whatever an acceptance were to return
-pub answer-alike : {A B : Type 0} (rs : List Refusal) (x : A) (y : B) (n a : ℕ) → answer rs x ≡ refused n a → answer rs y ≡ refused n a
-answer-alike rs x y n a e = ap (λ (ts : List Refusal). answer ts y) (sym (append-nil rs)) ∙ answer-first rs [] x y n a e
+pub answer-alike : {A B : Type 0} (rs : List Test) (x : A) (y : B) (why : Refusal) → answer rs x ≡ refused why → answer rs y ≡ refused why
+answer-alike rs x y why e = ap (λ (ts : List Test). answer ts y) (sym (append-nil rs)) ∙ answer-first rs [] x y why e

@@ -1,22 +1,21 @@
--- A refusal of the code as one of the definition: its number and its amount.
+-- The number and the amount of each refusal (docs/FORMAT.md, 7.1). One that has no amount has 0.
 -- Assumes nothing: these are definitions.
 use Prim.Native.Nat.{ℕ}
-use Rattle.refusal.specs.Answer.{Answer, refused, incomplete, notVersion, badLength, notTiled, tooDeep, noRecords, badDepth, badHeader, badTable, tooLong, noRoom}
-use Rattle.refusal.specs.declared.Refusal.{Refusal}
+use Rattle.refusal.specs.Answer.{Refusal}
 use Rattle.refusal.specs.declared.Refusal.the-variants.{Incomplete, NotVersion, BadLength, NotTiled, TooDeep, NoRecords, BadDepth, BadHeader, BadTable, TooLong, NoRoom}
 
 abbrev pub numberOf : Refusal → ℕ
-numberOf (Incomplete n) = incomplete
-numberOf NotVersion = notVersion
-numberOf BadLength = badLength
-numberOf NotTiled = notTiled
-numberOf TooDeep = tooDeep
-numberOf (NoRecords n) = noRecords
-numberOf BadDepth = badDepth
-numberOf BadHeader = badHeader
-numberOf (BadTable n) = badTable
-numberOf TooLong = tooLong
-numberOf (NoRoom n) = noRoom
+numberOf (Incomplete n) = 1
+numberOf NotVersion = 2
+numberOf BadLength = 3
+numberOf NotTiled = 4
+numberOf TooDeep = 5
+numberOf (NoRecords n) = 6
+numberOf BadDepth = 7
+numberOf BadHeader = 8
+numberOf (BadTable n) = 9
+numberOf TooLong = 10
+numberOf (NoRoom n) = 11
 
 abbrev pub amountOf : Refusal → ℕ
 amountOf (Incomplete n) = n
@@ -30,6 +29,3 @@ amountOf BadHeader = 0
 amountOf (BadTable n) = n
 amountOf TooLong = 0
 amountOf (NoRoom n) = n
-
-abbrev pub refusedAs : {A : Type 0} → Refusal → Answer A
-refusedAs r = refused (numberOf r) (amountOf r)

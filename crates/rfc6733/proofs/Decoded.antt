@@ -9,7 +9,8 @@ use lib.ListN.{length}
 use lib.Dec.{leb}
 use borrow.Author.Tests.{lt-ltb, le-ltb, leb-true}
 use Rattle.octets.specs.Run.{Tree, tree, item, deepest}
-use Rattle.refusal.specs.Answer.{accepted, refused, Refusal, answer, passes, tooDeep, noRecords, badDepth}
+use Rattle.refusal.specs.Answer.{Refusal, accepted, refused, Test, answer, passes}
+use Rattle.refusal.specs.declared.Refusal.the-variants.{TooDeep, NoRecords, BadDepth}
 use Rattle.rfc6733.specs.Header.{headerSize, headerRefusals}
 use Rattle.rfc6733.specs.Avp.{avpRefusals, mostDepth}
 use Rattle.rfc6733.specs.Dictionary.{Dictionary}
@@ -25,8 +26,8 @@ pub allowed-most : (limit : ℕ) → allowed limit ≡ true → (1 ≤ limit) ×
 unfolding allowed
 allowed-most limit e = let both = and-true (leb 1 limit) (leb limit mostDepth) e in (leb-true 1 limit (both .0), leb-true limit mostDepth (both .1))
 
-module _ {A : Type 0} (limit : ℕ) (rs : List Refusal) (x : A) where
-  pub limit-bad : allowed limit ≡ false → refused badDepth 0 ≡ answer (limitRefusals limit ++ rs) x
+module _ {A : Type 0} (limit : ℕ) (rs : List Test) (x : A) where
+  pub limit-bad : allowed limit ≡ false → refused BadDepth ≡ answer (limitRefusals limit ++ rs) x
   limit-bad e = rw e
 
   pub limit-good : allowed limit ≡ true → answer rs x ≡ answer (limitRefusals limit ++ rs) x
@@ -35,11 +36,11 @@ module _ {A : Type 0} (limit : ℕ) (rs : List Refusal) (x : A) where
 -- ---- a run that is refused, or not
 
 module _ {A : Type 0} (limit room : ℕ) (t : Tree) (rs : List Record) (x : A) where
-  pub deeper : limit < deepest t → refused tooDeep 0 ≡ answer (fitRefusals limit room t rs) x
+  pub deeper : limit < deepest t → refused TooDeep ≡ answer (fitRefusals limit room t rs) x
   deeper h = simp (lt-ltb limit (deepest t) h)
 
   module _ (shallow : deepest t ≤ limit) (count : length rs ≡ recordCount t) where
-    pub more-records : room < recordCount t → refused noRecords (recordCount t) ≡ answer (fitRefusals limit room t rs) x
+    pub more-records : room < recordCount t → refused (NoRecords (recordCount t)) ≡ answer (fitRefusals limit room t rs) x
     more-records h = simp (le-ltb limit (deepest t) shallow, count, lt-ltb room (recordCount t) h)
 
     pub fits : recordCount t ≤ room → accepted x ≡ answer (fitRefusals limit room t rs) x
@@ -48,19 +49,19 @@ module _ {A : Type 0} (limit room : ℕ) (t : Tree) (rs : List Record) (x : A) w
 -- ---- a message
 
 module _ (D : Dictionary) (limit room : ℕ) (s : List ℕ) where
-  abbrev pub rest : List Refusal
+  abbrev pub rest : List Test
   rest = runRefusals D limit room headerSize (messageBody s)
 
-  pub message-limit-bad : allowed limit ≡ false → refused badDepth 0 ≡ decoded D limit room s
+  pub message-limit-bad : allowed limit ≡ false → refused BadDepth ≡ decoded D limit room s
   unfolding decoded messageRefusals
   message-limit-bad e = limit-bad limit (headerRefusals s ++ rest) (messageOf D s) e
 
   module _ (limit-is : allowed limit ≡ true) where
     -- the header's refusal is the message's
-    pub header-refused : (n a : ℕ) → refused n a ≡ headerAlone s → refused n a ≡ decoded D limit room s
+    pub header-refused : (why : Refusal) → refused why ≡ headerAlone s → refused why ≡ decoded D limit room s
     unfolding decoded messageRefusals headerAlone
-    header-refused n a e =
-        sym (answer-first (headerRefusals s) rest _ (messageOf D s) n a (sym e))
+    header-refused why e =
+        sym (answer-first (headerRefusals s) rest _ (messageOf D s) why (sym e))
         ∙ limit-good limit (headerRefusals s ++ rest) (messageOf D s) limit-is
 
     module _ (header : passes (headerRefusals s) ≡ true) where
@@ -74,19 +75,19 @@ module _ (D : Dictionary) (limit room : ℕ) (s : List ℕ) where
 -- ---- one AVP alone
 
 module _ (D : Dictionary) (limit room : ℕ) (s : List ℕ) where
-  abbrev alone-rest : List Refusal
+  abbrev alone-rest : List Test
   alone-rest = fitRefusals limit room (tree (avps D) (item (avps D) s)) (aloneRecords D s)
 
-  pub alone-limit-bad : allowed limit ≡ false → refused badDepth 0 ≡ avpAlone D limit room s
+  pub alone-limit-bad : allowed limit ≡ false → refused BadDepth ≡ avpAlone D limit room s
   unfolding avpAlone aloneRefusals
   alone-limit-bad e = limit-bad limit (avpRefusals s ++ alone-rest) (aloneOf D s) e
 
   module _ (limit-is : allowed limit ≡ true) where
     -- the refusal of what stands at the front
-    pub front-refused : {A : Type 0} (x : A) (n a : ℕ) → answer (avpRefusals s) x ≡ refused n a → refused n a ≡ avpAlone D limit room s
+    pub front-refused : {A : Type 0} (x : A) (why : Refusal) → answer (avpRefusals s) x ≡ refused why → refused why ≡ avpAlone D limit room s
     unfolding avpAlone aloneRefusals
-    front-refused x n a e =
-        sym (answer-first (avpRefusals s) alone-rest x (aloneOf D s) n a e)
+    front-refused x why e =
+        sym (answer-first (avpRefusals s) alone-rest x (aloneOf D s) why e)
         ∙ limit-good limit (avpRefusals s ++ alone-rest) (aloneOf D s) limit-is
 
     module _ (front : passes (avpRefusals s) ≡ true) where

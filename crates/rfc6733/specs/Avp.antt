@@ -7,7 +7,8 @@ use mathlib.Core.List.{List, [], _∷_, _++_}
 use lib.ListN.{length, take, drop, getD}
 use lib.Dec.{ltb}
 use Rattle.octets.specs.Octets.{be, Field, Layout, total, fieldsOf, valueAt}
-use Rattle.refusal.specs.Answer.{Refusal, refuse, incomplete, badLength, passes}
+use Rattle.refusal.specs.Answer.{Test, refuse, passes}
+use Rattle.refusal.specs.declared.Refusal.the-variants.{Incomplete, BadLength}
 use Rattle.flags.specs.Flags.{bit}
 
 -- the header; the last field is there with the vendor bit alone
@@ -81,15 +82,15 @@ unfoldable pub pads : List ℕ → ℕ
 pads a = be 3 (drop (avpLength a) a) 0
 
 -- the refusals of an AVP at the front of s, in order
-unfoldable pub avpRefusals : List ℕ → List Refusal
+unfoldable pub avpRefusals : List ℕ → List Test
 avpRefusals s =
-    refuse (ltb (length s) 4) incomplete (4 - length s)
-    ∷ refuse (ltb (length s) 5) incomplete 1
-    ∷ refuse (ltb (length s) 8) incomplete (8 - length s)
-    ∷ refuse (ltb (avpLength s) 8) badLength 0
-    ∷ refuse (ltb (length s) (avpLength s)) incomplete (avpLength s - length s)
-    ∷ refuse (ltb (avpLength s) (headSize (flags s))) badLength 0
-    ∷ refuse (ltb (length s) (avpSize s)) incomplete (avpSize s - length s)
+    refuse (ltb (length s) 4) (Incomplete (4 - length s))
+    ∷ refuse (ltb (length s) 5) (Incomplete 1)
+    ∷ refuse (ltb (length s) 8) (Incomplete (8 - length s))
+    ∷ refuse (ltb (avpLength s) 8) BadLength
+    ∷ refuse (ltb (length s) (avpLength s)) (Incomplete (avpLength s - length s))
+    ∷ refuse (ltb (avpLength s) (headSize (flags s))) BadLength
+    ∷ refuse (ltb (length s) (avpSize s)) (Incomplete (avpSize s - length s))
     ∷ []
 
 -- an AVP is complete where it is not refused

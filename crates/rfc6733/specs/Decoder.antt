@@ -6,7 +6,8 @@ use mathlib.Core.List.{List, [], _∷_, _++_}
 use lib.ListN.{length, take, drop}
 use lib.Dec.{leb, ltb}
 use Rattle.octets.specs.Run.{Tree, tree, item, tiles, tried, deepest}
-use Rattle.refusal.specs.Answer.{Answer, Refusal, refuse, answer, notTiled, tooDeep, noRecords, badDepth}
+use Rattle.refusal.specs.Answer.{Answer, Test, refuse, answer}
+use Rattle.refusal.specs.declared.Refusal.the-variants.{NotTiled, TooDeep, NoRecords, BadDepth}
 use Rattle.flags.specs.Flags.{join}
 use Rattle.rfc6733.specs.Header.{Header, headerSize, messageLength, headerOf, headerErrors, headerRefusals}
 use Rattle.rfc6733.specs.Avp.{avpSize, avpRefusals, mostDepth}
@@ -38,8 +39,8 @@ headerAlone s =
 unfoldable pub allowed : ℕ → Bool
 allowed limit = leb 1 limit && leb limit mostDepth
 
-abbrev pub limitRefusals : ℕ → List Refusal
-limitRefusals limit = refuse (not (allowed limit)) badDepth 0 ∷ []
+abbrev pub limitRefusals : ℕ → List Test
+limitRefusals limit = refuse (not (allowed limit)) BadDepth ∷ []
 
 -- ---- a run of AVPs, which stands at a place
 
@@ -53,21 +54,21 @@ runCounts D place s =
     record { errors = errors D t; records = length (runRecords D place s); tried = tried t; length = length s }
 
 -- it is refused where it does not tile
-abbrev pub tileRefusals : Tree → List Refusal
-tileRefusals t = refuse (not (tiles t)) notTiled 0 ∷ []
+abbrev pub tileRefusals : Tree → List Test
+tileRefusals t = refuse (not (tiles t)) NotTiled ∷ []
 
 -- where it tries a header deeper than the limit
-abbrev pub depthRefusals : ℕ → Tree → List Refusal
-depthRefusals limit t = refuse (ltb limit (deepest t)) tooDeep 0 ∷ []
+abbrev pub depthRefusals : ℕ → Tree → List Test
+depthRefusals limit t = refuse (ltb limit (deepest t)) TooDeep ∷ []
 
 -- and where it has more records than there is room for
-abbrev pub roomRefusals : ℕ → List Record → List Refusal
-roomRefusals room rs = refuse (ltb room (length rs)) noRecords (length rs) ∷ []
+abbrev pub roomRefusals : ℕ → List Record → List Test
+roomRefusals room rs = refuse (ltb room (length rs)) (NoRecords (length rs)) ∷ []
 
-abbrev pub fitRefusals : ℕ → ℕ → Tree → List Record → List Refusal
+abbrev pub fitRefusals : ℕ → ℕ → Tree → List Record → List Test
 fitRefusals limit room t rs = depthRefusals limit t ++ roomRefusals room rs
 
-abbrev pub runRefusals : Dictionary → ℕ → ℕ → ℕ → List ℕ → List Refusal
+abbrev pub runRefusals : Dictionary → ℕ → ℕ → ℕ → List ℕ → List Test
 runRefusals D limit room place s = let t = tree (avps D) s in tileRefusals t ++ fitRefusals limit room t (runRecords D place s)
 
 -- ---- a message
@@ -79,7 +80,7 @@ messageBody s = take (messageLength s - headerSize) (drop headerSize s)
 unfoldable pub messageRecords : Dictionary → List ℕ → List Record
 messageRecords D s = runRecords D headerSize (messageBody s)
 
-unfoldable pub messageRefusals : Dictionary → ℕ → ℕ → List ℕ → List Refusal
+unfoldable pub messageRefusals : Dictionary → ℕ → ℕ → List ℕ → List Test
 messageRefusals D limit room s =
     limitRefusals limit ++ (headerRefusals s ++ runRefusals D limit room headerSize (messageBody s))
 
@@ -107,7 +108,7 @@ decoded D limit room s = answer (messageRefusals D limit room s) (messageOf D s)
 unfoldable pub aloneRecords : Dictionary → List ℕ → List Record
 aloneRecords D s = runRecords D 0 (item (avps D) s)
 
-unfoldable pub aloneRefusals : Dictionary → ℕ → ℕ → List ℕ → List Refusal
+unfoldable pub aloneRefusals : Dictionary → ℕ → ℕ → List ℕ → List Test
 aloneRefusals D limit room s =
     limitRefusals limit ++ (avpRefusals s ++ fitRefusals limit room (tree (avps D) (item (avps D) s)) (aloneRecords D s))
 

@@ -5,7 +5,8 @@ use mathlib.Core.Bool.{cond}
 use mathlib.Core.List.{List, [], _∷_, _++_}
 use lib.ListN.{take}
 use lib.Dec.{ltb}
-use Rattle.refusal.specs.Answer.{Answer, accepted, refused}
+use Rattle.refusal.specs.Answer.{Refusal, Answer, accepted, refused}
+use Rattle.refusal.specs.Refusals.{numberOf, amountOf}
 use Rattle.rfc6733.specs.Avp.{mostDepth}
 use Rattle.rfc6733.specs.Dictionary.{sawp}
 use Rattle.record.specs.Record.{Record}
@@ -15,7 +16,7 @@ use Rattle.rfc6733.specs.Decoder.{Counts, Message, decoded, messageRecor
 
 pub data Dump : Type 0 where
   lines : List (List ℕ) → Dump
-  refusal : ℕ → ℕ → Dump
+  refusal : Refusal → Dump
 
 -- depth, code, vendor, kind, error flags, length, value
 abbrev pub recordLine : Record → List ℕ
@@ -31,7 +32,7 @@ firstLine c = c .length ∷ c .errors ∷ c .records ∷ c .tried ∷ []
 
 unfoldable pub dump : Answer Message → List Record → Dump
 dump (accepted m) rs = lines (firstLine (m .counts) ∷ recordLines rs)
-dump (refused n a) rs = refusal n a
+dump (refused why) rs = refusal why
 
 -- ---- the text, in ASCII
 
@@ -62,12 +63,12 @@ abbrev pub refusedWord : List ℕ
 refusedWord = 114 ∷ 101 ∷ 102 ∷ 117 ∷ 115 ∷ 101 ∷ 100 ∷ []
 
 -- the line of a refusal: the word, its number and its amount
-abbrev pub refusalText : ℕ → ℕ → List ℕ
-refusalText n a = refusedWord ++ (32 ∷ line (n ∷ a ∷ []))
+abbrev pub refusalText : Refusal → List ℕ
+refusalText why = refusedWord ++ (32 ∷ line (numberOf why ∷ amountOf why ∷ []))
 
 unfoldable pub dumpText : Dump → List ℕ
 dumpText (lines ls) = linesText ls
-dumpText (refusal n a) = refusalText n a
+dumpText (refusal why) = refusalText why
 
 -- what the dump writes: up to 32,768 bytes of input, in the sawp reading, with 64 levels and 1,024 records
 unfoldable pub dumped : List ℕ → List ℕ

@@ -7,7 +7,8 @@ use lib.ListN.{length, getD}
 use lib.Dec.{ltb, eqb}
 use Rattle.octets.specs.Octets.{Layout, total, valueAt}
 use Rattle.flags.specs.Flags.{nonZeroReserved, flag}
-use Rattle.refusal.specs.Answer.{Refusal, refuse, incomplete, notVersion, badLength}
+use Rattle.refusal.specs.Answer.{Test, refuse}
+use Rattle.refusal.specs.declared.Refusal.the-variants.{Incomplete, NotVersion, BadLength}
 
 pub record Header : Type 0 where
   pub version : ℕ
@@ -71,12 +72,12 @@ unfoldable pub headerErrors : List ℕ → ℕ
 headerErrors s = flag (not (eqb (headerReserved (valueAt headerLayout s .flags)) 0)) nonZeroReserved
 
 -- its refusals, in order
-unfoldable pub headerRefusals : List ℕ → List Refusal
+unfoldable pub headerRefusals : List ℕ → List Test
 headerRefusals s =
-    refuse (ltb (length s) 1) incomplete 1
-    ∷ refuse (not (eqb (valueAt headerLayout s .version) 1)) notVersion 0
-    ∷ refuse (ltb (length s) 4) incomplete (4 - length s)
-    ∷ refuse (ltb (messageLength s) 4) badLength 0
-    ∷ refuse (ltb (length s) (messageLength s)) incomplete (messageLength s - length s)
-    ∷ refuse (ltb (messageLength s) headerSize) badLength 0
+    refuse (ltb (length s) 1) (Incomplete 1)
+    ∷ refuse (not (eqb (valueAt headerLayout s .version) 1)) NotVersion
+    ∷ refuse (ltb (length s) 4) (Incomplete (4 - length s))
+    ∷ refuse (ltb (messageLength s) 4) BadLength
+    ∷ refuse (ltb (length s) (messageLength s)) (Incomplete (messageLength s - length s))
+    ∷ refuse (ltb (messageLength s) headerSize) BadLength
     ∷ []

@@ -3,7 +3,7 @@
 use Prim.Native.Nat.{ℕ}
 use mathlib.Core.List.{List, [], _∷_, _++_}
 use lib.ListN.{take, replicate}
-use Rattle.refusal.specs.Answer.{incomplete, notVersion, badLength, notTiled, tooDeep, noRecords}
+use Rattle.refusal.specs.declared.Refusal.the-variants.{Incomplete, NotVersion, BadLength, NotTiled, TooDeep, NoRecords}
 use Rattle.rfc6733.specs.Dictionary.{Dictionary}
 use Rattle.rfc6733.specs.Decoder.{decoded, messageRecords}
 use Rattle.rfc6733.specs.Dump.{Dump, lines, refusal, dump}
@@ -43,17 +43,17 @@ empty = 0 ∷ 0 ∷ 1 ∷ 0x17 ∷ 0 ∷ 0 ∷ 0 ∷ 8 ∷ []
 abbrev pub marked : List Case
 marked =
     -- P1
-    given [] (refusal incomplete 1)
+    given [] (refusal (Incomplete 1))
     -- P2
-    ∷ given (2 ∷ []) (refusal notVersion 0)
+    ∷ given (2 ∷ []) (refusal NotVersion)
     -- P3
-    ∷ given (1 ∷ 0 ∷ []) (refusal incomplete 2)
+    ∷ given (1 ∷ 0 ∷ []) (refusal (Incomplete 2))
     -- P4
-    ∷ given (stating 3 0) (refusal badLength 0)
+    ∷ given (stating 3 0) (refusal BadLength)
     -- P5
-    ∷ given (stating 19 4) (refusal incomplete 11)
+    ∷ given (stating 19 4) (refusal (Incomplete 11))
     -- P6
-    ∷ given (stating 19 15) (refusal badLength 0)
+    ∷ given (stating 19 15) (refusal BadLength)
     -- P7
     ∷ given (stating 20 16) (lines ((20 ∷ 0 ∷ 0 ∷ 0 ∷ []) ∷ []))
     -- P8
@@ -61,15 +61,15 @@ marked =
     -- P9
     ∷ given (holding 32 short) (lines ((32 ∷ 2 ∷ 1 ∷ 1 ∷ []) ∷ (1 ∷ 268 ∷ 0 ∷ 0 ∷ 2 ∷ 11 ∷ 0 ∷ []) ∷ []))
     -- P10
-    ∷ given (holding 33 (take 13 surplus)) (refusal notTiled 0)
+    ∷ given (holding 33 (take 13 surplus)) (refusal NotTiled)
     -- P11, and with the depth limit 1
     ∷ given (holding 32 failing) (lines ((32 ∷ 1 ∷ 1 ∷ 2 ∷ []) ∷ (1 ∷ 279 ∷ 0 ∷ 0 ∷ 1 ∷ 9 ∷ 0 ∷ []) ∷ []))
-    ∷ record { limit = 1; room = 64; input = holding 32 failing; shows = refusal tooDeep 0 }
+    ∷ record { limit = 1; room = 64; input = holding 32 failing; shows = refusal TooDeep }
     -- P12, and with the depth limit 1
     ∷ given (holding 28 empty) (lines ((28 ∷ 0 ∷ 1 ∷ 1 ∷ []) ∷ (1 ∷ 279 ∷ 0 ∷ 8 ∷ 0 ∷ 8 ∷ 0 ∷ []) ∷ []))
     ∷ record { limit = 1; room = 64; input = holding 28 empty; shows = lines ((28 ∷ 0 ∷ 1 ∷ 1 ∷ []) ∷ (1 ∷ 279 ∷ 0 ∷ 8 ∷ 0 ∷ 8 ∷ 0 ∷ []) ∷ []) }
     -- P13
-    ∷ record { limit = 64; room = 0; input = holding 36 surplus; shows = refusal noRecords 1 }
+    ∷ record { limit = 64; room = 0; input = holding 36 surplus; shows = refusal (NoRecords 1) }
     ∷ []
 
 -- what the definition shows of a case, and what it must show

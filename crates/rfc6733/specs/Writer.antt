@@ -6,7 +6,8 @@ use mathlib.Core.List.{List, [], _∷_, _++_}
 use lib.ListN.{length, take, drop}
 use lib.Dec.{leb, ltb, eqb}
 use Rattle.octets.specs.Octets.{octets, Field, pack, over, fieldsOf}
-use Rattle.refusal.specs.Answer.{Answer, accepted, refused, refuse, answer, badHeader, badTable, tooLong, noRoom}
+use Rattle.refusal.specs.Answer.{Answer, accepted, refused, refuse, answer}
+use Rattle.refusal.specs.declared.Refusal.the-variants.{BadHeader, BadTable, TooLong, NoRoom}
 use Rattle.flags.specs.Flags.{bit}
 use Rattle.rfc6733.specs.Avp as avp
 use Rattle.rfc6733.specs.Header.{Header, headerLayout}
@@ -127,14 +128,14 @@ written f table pool room =
     let kept = keepers 1 (length pool) (tableOf table) in
     let total = length (tableBytes f table pool) in
     answer
-    (refuse (ltb most24 (f .code)) badHeader 0
-    ∷ refuse (ltb kept (length table / recordSize) || not (eqb (length table % recordSize) 0)) badTable kept
-    ∷ refuse (ltb most24 total) tooLong 0
-    ∷ refuse (ltb room total) noRoom total
+    (refuse (ltb most24 (f .code)) BadHeader
+    ∷ refuse (ltb kept (length table / recordSize) || not (eqb (length table % recordSize) 0)) (BadTable kept)
+    ∷ refuse (ltb most24 total) TooLong
+    ∷ refuse (ltb room total) (NoRoom total)
     ∷ [])
     total
 
 -- the output afterwards: past the total, and where the table was refused, as lent
 unfoldable pub output : Answer ℕ → List ℕ → List ℕ → List ℕ
 output (accepted total) message out = over message out
-output (refused n a) message out = out
+output (refused why) message out = out

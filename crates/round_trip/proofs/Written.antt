@@ -10,7 +10,8 @@ use lib.ListN.{length}
 use lib.Dec.{ltb, eqb}
 use borrow.Author.Tests.{ltb-false, le-ltb, eqb-true, eq-eqb, not-true, not-false}
 use Rattle.octets.proofs.Runs.{false-true}
-use Rattle.refusal.specs.Answer.{accepted, Refusal, refuse, badHeader, badTable, tooLong, noRoom}
+use Rattle.refusal.specs.Answer.{accepted, Test, refuse}
+use Rattle.refusal.specs.declared.Refusal.the-variants.{BadHeader, BadTable, TooLong, NoRoom}
 use Rattle.record.specs.Record.{recordSize}
 use Rattle.rfc6733.specs.Writer.{Fields, keepers, tableBytes, most24, written}
 use Rattle.record.specs.Table.{tableOf}
@@ -38,12 +39,12 @@ module _ (f : Fields) (table pool : List ℕ) (room : ℕ) where
   abbrev total : ℕ
   total = length (tableBytes f table pool)
 
-  abbrev refusals : List Refusal
+  abbrev refusals : List Test
   refusals =
-      refuse (ltb most24 (f .code)) badHeader 0
-      ∷ refuse (ltb kept (length table / recordSize) || not (eqb (length table % recordSize) 0)) badTable kept
-      ∷ refuse (ltb most24 total) tooLong 0
-      ∷ refuse (ltb room total) noRoom total
+      refuse (ltb most24 (f .code)) BadHeader
+      ∷ refuse (ltb kept (length table / recordSize) || not (eqb (length table % recordSize) 0)) (BadTable kept)
+      ∷ refuse (ltb most24 total) TooLong
+      ∷ refuse (ltb room total) (NoRoom total)
       ∷ []
 
   pub writable-written : Writable f table pool room → written f table pool room ≡ accepted total

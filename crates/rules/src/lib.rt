@@ -12,11 +12,10 @@ ghost use Rattle.flags.specs.Flags.{bit};
 ghost use Rattle.rfc6733.specs.Avp.{vendorBit, mostDepth};
 ghost use Rattle.record.specs.Table.{tableOf};
 ghost use Rattle.rfc6733.specs.Writer.{headOf, keepsLeaf, keeps, keepers, allowedAfter};
-ghost use Rattle.record.specs.Stored.{recordAs};
 
 /// The size of the header of the record's AVP.
 pub fn header_size(r: Record) -> usize
-    ensures { λ n. ⌜ n ≡ headOf (recordAs r) ⌝ }
+    ensures { λ n. ⌜ n ≡ headOf r ⌝ }
 {
     AVP::header_size_of(r.flags)
 }
@@ -57,7 +56,7 @@ fn unused_padding(r: Record) -> u32
 
 // The rules of a record that is no group, where so many bytes are there to point into.
 fn keeps_leaf(r: Record, available: usize) -> bool
-    ensures { λ b. ⌜ b ≡ keepsLeaf available (recordAs r) ⌝ }
+    ensures { λ b. ⌜ b ≡ keepsLeaf available r ⌝ }
 {
     let length = r.length as usize;
     let header_size = header_size(r);
@@ -78,7 +77,7 @@ fn keeps_leaf(r: Record, available: usize) -> bool
 
 // The rules of a record by itself, at whatever depth it has.
 fn keeps(r: Record, available: usize) -> bool
-    ensures { λ b. ⌜ b ≡ keeps (r .depth) available (recordAs r) ⌝ }
+    ensures { λ b. ⌜ b ≡ keeps (r .depth) available r ⌝ }
 {
     if r.depth < 1 {
         return false;
@@ -101,7 +100,7 @@ fn keeps(r: Record, available: usize) -> bool
 // The depth that is allowed after it: one more only after a group.
 fn allowed_after(r: Record) -> u8
     requires { ⌜ r .depth ≤ mostDepth ⌝ }
-    ensures { λ n. ⌜ n ≡ allowedAfter (recordAs r) ⌝ }
+    ensures { λ n. ⌜ n ≡ allowedAfter r ⌝ }
 {
     if r.kind == GROUPED {
         return r.depth + 1;

@@ -5,8 +5,9 @@ use Prim.Native.Nat.{ℕ}
 use mathlib.Core.Bool.{Bool, true, false}
 use mathlib.Core.List.{List, [], _∷_}
 use lib.ListN.{length}
-use Rattle.refusal.specs.Answer.{Answer, accepted, refused}
-use Rattle.rfc6733.specs.Header.{Header}
+use Rattle.refusal.specs.Answer.{Refusal, Answer, accepted, refused}
+use Rattle.refusal.specs.Refusals.{numberOf, amountOf}
+use Rattle.rfc6733.specs.Header.{Header, headerLayout}
 use Rattle.rfc6733.specs.Decoder.{Counts, Message, decoded, messageRecords, avpAlone, aloneRecords}
 use Rattle.record.specs.Store.{room, stored}
 use Rattle.rfc6733.specs.Writer.{Fields, written, tableBytes, output}
@@ -23,21 +24,7 @@ fieldsGiven f c a h e = record { flags = f; code = c; appId = a; hopId = h; endI
 
 -- number, amount; error flags, records, tried, length; the header's fields
 abbrev pub result : ℕ → ℕ → Counts → Header → List ℕ
-result n a c h =
-    n
-    ∷ a
-    ∷ c .errors
-    ∷ c .records
-    ∷ c .tried
-    ∷ c .length
-    ∷ h .version
-    ∷ h .length
-    ∷ h .flags
-    ∷ h .code
-    ∷ h .appId
-    ∷ h .hopId
-    ∷ h .endId
-    ∷ []
+result n a c h = n ∷ a ∷ c .errors ∷ c .records ∷ c .tried ∷ c .length ∷ headerLayout .numbers h
 
 -- so many bytes, and nothing else
 abbrev pub bytesAlone : ℕ → Counts
@@ -46,23 +33,23 @@ bytesAlone n = record { errors = 0; records = 0; tried = 0; length = n }
 abbrev pub noHeader : Header
 noHeader = record { version = 0; length = 0; flags = 0; code = 0; appId = 0; hopId = 0; endId = 0 }
 
-abbrev pub refusal : ℕ → ℕ → List ℕ
-refusal n a = result n a (bytesAlone 0) noHeader
+abbrev pub refusal : Refusal → List ℕ
+refusal why = result (numberOf why) (amountOf why) (bytesAlone 0) noHeader
 
 -- a message, or the header alone
 unfoldable pub messageResult : Answer Message → List ℕ
 messageResult (accepted m) = result 0 0 (m .counts) (m .header)
-messageResult (refused n a) = refusal n a
+messageResult (refused why) = refusal why
 
 -- one AVP alone
 unfoldable pub avpResult : Answer Counts → List ℕ
 avpResult (accepted c) = result 0 0 c noHeader
-avpResult (refused n a) = refusal n a
+avpResult (refused why) = refusal why
 
 -- what the writer wrote: its total is the length
 unfoldable pub writtenResult : Answer ℕ → List ℕ
 writtenResult (accepted total) = result 0 0 (bytesAlone total) noHeader
-writtenResult (refused n a) = refusal n a
+writtenResult (refused why) = refusal why
 
 -- ---- what the functions are asked
 
@@ -77,6 +64,10 @@ avpAsked rfc limit store input = avpAlone (dictionary (readingOf rfc)) limit (ro
 abbrev pub writeAsked : Fields → List ℕ → List ℕ → List ℕ → Answer ℕ
 writeAsked f table pool out = written f table pool (length out)
 
+-- and what is answered, by the header's five fields
+abbrev pub writeResult : ℕ → ℕ → ℕ → ℕ → ℕ → List ℕ → List ℕ → List ℕ → List ℕ
+writeResult f c a h e table pool out = writtenResult (writeAsked (fieldsGiven f c a h e) table pool out)
+
 -- ---- what the lent memory holds afterwards
 
 abbrev pub messageStore : Bool → ℕ → List ℕ → List ℕ → List ℕ
@@ -86,5 +77,6 @@ messageStore rfc limit store input =
 abbrev pub avpStore : Bool → ℕ → List ℕ → List ℕ → List ℕ
 avpStore rfc limit store input = stored (avpAsked rfc limit store input) (aloneRecords (dictionary (readingOf rfc)) input) store
 
-abbrev pub writeOutput : Fields → List ℕ → List ℕ → List ℕ → List ℕ
-writeOutput f table pool out = output (writeAsked f table pool out) (tableBytes f table pool) out
+abbrev pub writeOutput : ℕ → ℕ → ℕ → ℕ → ℕ → List ℕ → List ℕ → List ℕ → List ℕ
+writeOutput f c a h e table pool out =
+    let fields = fieldsGiven f c a h e in output (writeAsked fields table pool out) (tableBytes fields table pool) out

@@ -15,12 +15,11 @@ ghost use Rattle.rfc6733.specs.Decoder.{headerAlone};
 ghost use Rattle.rfc6733.specs.Signed.{unixSeconds};
 ghost use Rattle.header.specs.Parsed as header;
 ghost use Rattle.header.specs.Parsed.{headerAs};
-ghost use Rattle.refusal.specs.Refusals.{numberOf, amountOf};
 ghost use Rattle.avps.specs.Answers as avps;
 ghost use Rattle.avps.specs.Answers.{countsAs};
 ghost use Rattle.diameter.specs.Answers.{answerOf};
 ghost use Rattle.writer.specs.Answers as writer;
-ghost use Rattle.tandrekily.specs.Results.{readingOf, fieldsGiven, result, refusal, messageResult, avpResult, writtenResult, messageAsked, avpAsked, writeAsked, messageStore, avpStore, writeOutput};
+ghost use Rattle.tandrekily.specs.Results.{readingOf, result, refusal, messageResult, avpResult, writtenResult, messageAsked, avpAsked, writeResult, messageStore, avpStore, writeOutput};
 
 /// How many numbers a result has. include/tandrekily.h names them.
 pub const RESULT: usize = 13;
@@ -69,7 +68,7 @@ fn lay(number: u64, amount: usize, counts: Counts, header: Header) -> [u64; RESU
 }
 
 fn refused(why: Refusal) -> [u64; RESULT]
-    ensures { λ r. ⌜ r ≡ refusal (numberOf why) (amountOf why) ⌝ }
+    ensures { λ r. ⌜ r ≡ refusal why ⌝ }
 {
     lay(why.number() as u64, why.amount(), NO_COUNTS, NO_HEADER)
 }
@@ -186,8 +185,8 @@ pub extern "C" fn tandrekily_write(
     out: &mut [u8],
     result: &mut [u64; RESULT],
 )
-    ensures result { λ _. ⌜ now (result .exit) ≡ writtenResult (writeAsked (fieldsGiven flags code «app_id» «hop_id» «end_id») (now (table .entry)) (now (pool .entry)) (now (out .entry))) ⌝ }
-    ensures out { λ _. ⌜ now (out .exit) ≡ writeOutput (fieldsGiven flags code «app_id» «hop_id» «end_id») (now (table .entry)) (now (pool .entry)) (now (out .entry)) ⌝ }
+    ensures result { λ _. ⌜ now (result .exit) ≡ writeResult flags code «app_id» «hop_id» «end_id» (now (table .entry)) (now (pool .entry)) (now (out .entry)) ⌝ }
+    ensures out { λ _. ⌜ now (out .exit) ≡ writeOutput flags code «app_id» «hop_id» «end_id» (now (table .entry)) (now (pool .entry)) (now (out .entry)) ⌝ }
 {
     let fields = Fields {
         flags,

@@ -5,7 +5,6 @@ use Prim.Native.Nat.{ℕ}
 use mathlib.Core.Path.{_≡_, refl, sym, ap, _∙_}
 use Rattle.refusal.specs.Answer.{Answer, accepted, refused}
 use Rattle.rfc6733.specs.Writer as definition
-use Rattle.refusal.proofs.Back.{refusal-back, is-back}
 use Rattle.writer.specs.declared.Fields.{Fields}
 use Rattle.writer.specs.declared.Written.{Written}
 use Rattle.writer.specs.declared.Written.the-variants.{Accepted, Refused}
@@ -16,12 +15,12 @@ fields-back f = record { flags = f .flags; code = f .code; «app_id» = f .appId
 
 abbrev outcome-back : Answer ℕ → Written
 outcome-back (accepted total) = Accepted total
-outcome-back (refused number amount) = Refused (refusal-back number amount)
+outcome-back (refused why) = Refused why
 
 outcome-is-back : (r : Written) → outcome-back (answerOf r) ≡ r
 unfolding answerOf
 outcome-is-back (Accepted total) = refl
-outcome-is-back (Refused r) = ap Refused (is-back r)
+outcome-is-back (Refused why) = refl
 
 pub fields-as-injective : (f f′ : Fields) → fieldsAs f ≡ fieldsAs f′ → f ≡ f′
 unfolding fieldsAs

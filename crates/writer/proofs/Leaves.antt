@@ -14,8 +14,6 @@ use Rattle.record.specs.Record.{Record}
 use Rattle.rfc6733.specs.Writer.{headOf, statedData, avpBytes, headFields, padBytes, dataIn}
 use Rattle.round_trip.specs.Rules.{Leaf}
 use Rattle.round_trip.proofs.Lengths.{head-low, head-length, avp-length}
-use Rattle.record.specs.declared.Record as code
-use Rattle.record.specs.Stored.{recordAs}
 use Rattle.writer.specs.Emitting.{LeafRoom}
 
 -- ---- its sizes
@@ -43,23 +41,22 @@ leaf-sizes pool r l =
     }
 
 -- the numbers by which the code lends parts, with the header's size h
-pub record Numbers (r : code.Record) (pool : List ℕ) (room h : ℕ) : Type 0 where
+pub record Numbers (r : Record) (pool : List ℕ) (room h : ℕ) : Type 0 where
   pub low : 8 ≤ h
-  pub head-is : h ≡ headOf (recordAs r)
+  pub head-is : h ≡ headOf r
   pub long : h ≤ r .length
   pub within : r .place + (r .length - h) ≤ length pool
   pub few : r .padding ≤ 3
   pub fits : r .length + r .padding ≤ room
 
-pub numbers : (r : code.Record) (pool : List ℕ) (room h : ℕ) → LeafRoom (recordAs r) pool room
-    → h ≡ headOf (recordAs r) → Numbers r pool room h
-unfolding recordAs
+pub numbers : (r : Record) (pool : List ℕ) (room h : ℕ) → LeafRoom r pool room
+    → h ≡ headOf r → Numbers r pool room h
 numbers r pool room h w e =
-    let s = leaf-sizes pool (recordAs r) (w .leaf) in
+    let s = leaf-sizes pool r (w .leaf) in
     let long = w .leaf .long in
     let within = w .leaf .within in
     record {
-      low = omega (arith, head-low (recordAs r));
+      low = omega (arith, head-low r);
       head-is = e;
       long = omega arith;
       within = omega arith;

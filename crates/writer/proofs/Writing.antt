@@ -11,7 +11,8 @@ use borrow.Author.Tests.{lt-ltb, le-ltb, eq-eqb, ne-eqb, le-leb}
 use Rattle.octets.specs.Octets.{pack, over}
 use Rattle.octets.proofs.Numbers.{length-pack}
 use Rattle.octets.proofs.Lists.{over-before, lent}
-use Rattle.refusal.specs.Answer.{accepted, refused, badHeader, badTable, tooLong, noRoom}
+use Rattle.refusal.specs.Answer.{accepted, refused}
+use Rattle.refusal.specs.declared.Refusal.the-variants.{BadHeader, BadTable, TooLong, NoRoom}
 use Rattle.record.specs.Record.{recordSize}
 use Rattle.record.specs.Forest.{Forest, none, node, leading, forest}
 use Rattle.rfc6733.specs.Writer.{Fields, keepers, forestBytes, messageBytes, tableBytes, most24, written, headerFields}
@@ -61,12 +62,12 @@ module _ (table pool : List ℕ) (k : ℕ) (kept : k ≡ keepers 1 (length pool)
 -- ---- the answers
 
 module _ (f : Fields) (table pool : List ℕ) (room : ℕ) where
-  pub bad-header : most24 < f .code → refused badHeader 0 ≡ written f table pool room
+  pub bad-header : most24 < f .code → refused BadHeader ≡ written f table pool room
   unfolding written
   bad-header h = simp (lt-ltb most24 (f .code) h)
 
   module _ (code-fits : f .code ≤ most24) (k : ℕ) (kept : k ≡ keepers 1 (length pool) (tableOf table)) where
-    pub bad-record : k < length table / recordSize → refused badTable k ≡ written f table pool room
+    pub bad-record : k < length table / recordSize → refused (BadTable k) ≡ written f table pool room
     unfolding written
     bad-record h = rw (le-ltb most24 (f .code) code-fits, ← kept, lt-ltb k (length table / recordSize) h)
 
@@ -74,7 +75,7 @@ module _ (f : Fields) (table pool : List ℕ) (room : ℕ) where
       abbrev valid : Valid 1 (length pool) (tableOf table)
       valid = all-valid table pool k kept all
 
-      pub cut-off : (length table % recordSize ≡ 0 → ⊥) → refused badTable (length table / recordSize) ≡ written f table pool room
+      pub cut-off : (length table % recordSize ≡ 0 → ⊥) → refused (BadTable (length table / recordSize)) ≡ written f table pool room
       unfolding written
       cut-off h =
           rw (
@@ -86,7 +87,7 @@ module _ (f : Fields) (table pool : List ℕ) (room : ℕ) where
           )
 
       module _ (none-cut : length table % recordSize ≡ 0) where
-        pub too-long : most24 < 20 + size (run 1 table) → refused tooLong 0 ≡ written f table pool room
+        pub too-long : most24 < 20 + size (run 1 table) → refused TooLong ≡ written f table pool room
         unfolding written
         too-long h =
             rw (
@@ -99,7 +100,7 @@ module _ (f : Fields) (table pool : List ℕ) (room : ℕ) where
             )
 
         module _ (short : 20 + size (run 1 table) ≤ most24) (n : ℕ) (n-is : n ≡ 20 + size (run 1 table)) where
-          pub no-room : room < n → refused noRoom n ≡ written f table pool room
+          pub no-room : room < n → refused (NoRoom n) ≡ written f table pool room
           unfolding written
           no-room h =
               rw (

@@ -2,9 +2,8 @@
 -- Assumes nothing: these are definitions.
 use Prim.Native.Nat.{ℕ}
 use mathlib.Core.List.{List}
-use Rattle.refusal.specs.Answer.{Answer, accepted}
+use Rattle.refusal.specs.Answer.{Answer, accepted, refused}
 use Rattle.rfc6733.specs.Writer as definition
-use Rattle.refusal.specs.Refusals.{refusedAs}
 use Rattle.writer.specs.declared.Fields.{Fields}
 use Rattle.writer.specs.declared.Written.{Written}
 use Rattle.writer.specs.declared.Written.the-variants.{Accepted, Refused}
@@ -14,7 +13,7 @@ fieldsAs f = record { flags = f .flags; code = f .code; appId = f .«app_id»; h
 
 unfoldable pub answerOf : Written → Answer ℕ
 answerOf (Accepted total) = accepted total
-answerOf (Refused r) = refusedAs r
+answerOf (Refused r) = refused r
 
 -- the output afterwards
 abbrev pub outputAfter : definition.Fields → List ℕ → List ℕ → List ℕ → Written → List ℕ

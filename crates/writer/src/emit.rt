@@ -12,7 +12,6 @@ ghost use Rattle.record.specs.Record.{recordSize};
 ghost use Rattle.record.specs.Table.{entryAt};
 ghost use Rattle.rfc6733.specs.Writer.{headOf, avpBytes, headFields, padBytes, dataIn};
 ghost use Rattle.round_trip.specs.Tables.{run, one};
-ghost use Rattle.record.specs.Stored.{recordAs};
 ghost use Rattle.writer.specs.Emitting.{LeafRoom, Ready, Done};
 
 // How many records were taken, and the bytes of their AVPs.
@@ -51,8 +50,8 @@ pub(super) fn put_u32(out: &mut [u8], at: usize, v: u32)
 
 // Puts the header of an AVP (RFC 6733, section 4.1), with its length.
 fn put_head(r: Record, n: u32, out: &mut [u8])
-    requires { ⌜ (headOf (recordAs r) ≤ length (now out)) × (8 ≤ length (now out)) ⌝ }
-    ensures { λ _. ⌜ now (out .exit) ≡ over (pack (headFields (recordAs r) n)) (now (out .entry)) ⌝ }
+    requires { ⌜ (headOf r ≤ length (now out)) × (8 ≤ length (now out)) ⌝ }
+    ensures { λ _. ⌜ now (out .exit) ≡ over (pack (headFields r n)) (now (out .entry)) ⌝ }
 {
     put_u32(out, 0, r.code);
     put_u8(out, 4, r.flags);
@@ -65,7 +64,7 @@ fn put_head(r: Record, n: u32, out: &mut [u8])
 
 fn put_padding(r: Record, out: &mut [u8])
     requires { ⌜ (r .padding ≤ length (now out)) × (r .padding ≤ 3) ⌝ }
-    ensures { λ _. ⌜ now (out .exit) ≡ over (padBytes (recordAs r)) (now (out .entry)) ⌝ }
+    ensures { λ _. ⌜ now (out .exit) ≡ over (padBytes r) (now (out .entry)) ⌝ }
 {
     let pads = octets::to_be_u24(r.pads);
     let size = r.padding as usize;
@@ -74,8 +73,8 @@ fn put_padding(r: Record, out: &mut [u8])
 
 // Puts the AVP of a record that is no group, with its data from `pool`, and answers its size.
 fn emit_leaf(r: Record, pool: &[u8], out: &mut [u8]) -> usize
-    requires { ⌜ LeafRoom (recordAs r) (now pool) (length (now out)) ⌝ }
-    ensures { λ n. ⌜ Put n (avpBytes (recordAs r) (dataIn (now (pool .entry)) (recordAs r))) (now (out .entry)) (now (out .exit)) ⌝ }
+    requires { ⌜ LeafRoom r (now pool) (length (now out)) ⌝ }
+    ensures { λ n. ⌜ Put n (avpBytes r (dataIn (now (pool .entry)) r)) (now (out .entry)) (now (out .exit)) ⌝ }
 {
     let header_size = header_size(r);
     let length = r.length as usize;
@@ -109,7 +108,7 @@ pub(super) fn emit_run(table: &[u8], pool: &[u8], depth: u8, out: &mut [u8]) -> 
 // Puts the record `r` that `table` starts with. The members of a group go into the part of the output after its header,
 // which is put when their size is known.
 fn emit_avp(r: Record, table: &[u8], pool: &[u8], out: &mut [u8]) -> Taken
-    requires { ⌜ (recordAs r ≡ entryAt (now table)) × (recordSize ≤ length (now table)) ⌝ }
+    requires { ⌜ (r ≡ entryAt (now table)) × (recordSize ≤ length (now table)) ⌝ }
     requires { ⌜ Ready (one (now table)) (r .depth) (now table) (now pool) (length (now out)) ⌝ }
     ensures { λ t. ⌜ Done (one (now (table .entry))) (now (pool .entry)) t (now (out .entry)) (now (out .exit)) ⌝ }
 {

@@ -8,7 +8,6 @@ ghost use lib.ListN.{length};
 ghost use Rattle.record.specs.Record.{recordSize};
 ghost use Rattle.record.specs.Table.{entryAt};
 ghost use Rattle.round_trip.specs.Tables.{run, one};
-ghost use Rattle.record.specs.Stored.{recordAs};
 ghost use Rattle.writer.specs.Sizing.{Orderly, sizedOf};
 
 // How many records were measured and the bytes of their AVPs, or that it is more bytes than were left.
@@ -44,7 +43,7 @@ pub(super) fn size_run(table: &[u8], depth: u8, left: usize) -> Measured
 
 // The same for the record `r` that `table` starts with.
 fn size_avp(r: Record, table: &[u8], left: usize) -> Measured
-    requires { ⌜ (recordAs r ≡ entryAt (now table)) × (recordSize ≤ length (now table)) ⌝ }
+    requires { ⌜ (r ≡ entryAt (now table)) × (recordSize ≤ length (now table)) ⌝ }
     requires { ⌜ Orderly (r .depth) (now table) left ⌝ }
     ensures { λ m. ⌜ m ≡ sizedOf left (one (now (table .entry))) ⌝ }
 {

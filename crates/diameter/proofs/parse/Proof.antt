@@ -8,7 +8,7 @@ use lib.ListN.{length}
 use denote.Ref.{now}
 use borrow.Author.Needs.{needs}
 use borrow.Author.Tests.{not-true, not-false}
-use Rattle.refusal.specs.Answer.{refused}
+use Rattle.refusal.specs.Answer.{Refusal, refused}
 use Rattle.rfc6733.specs.Decoder.{allowed, decoded}
 use Rattle.record.specs.Store.{capacity, stored}
 use Rattle.rfc6733.proofs.Decoded.{message-limit-bad, header-refused}
@@ -27,9 +27,9 @@ within-limit : (c : tie.After-parse) → allowed (start c .args .limit) ≡ true
 within-limit c = let e = c .before in sym (e .before .allowed .ensures) ∙ not-false _ (e .if1 .left)
 
 -- the header's refusal is the message's
-refuses : (c : tie.After-parse) (n a : ℕ) → header.answerOf (c .parse .result) ≡ refused n a
-    → let b = start c in refused n a ≡ decoded (dictionary (b .args .reading)) (b .args .limit) (capacity (length (now (b .args .store)))) (now (b .args .input))
-refuses c n a e = header-refused _ _ _ _ (within-limit c) n a (sym e ∙ c .parse .ensures)
+refuses : (c : tie.After-parse) (why : Refusal) → header.answerOf (c .parse .result) ≡ refused why
+    → let b = start c in refused why ≡ decoded (dictionary (b .args .reading)) (b .args .limit) (capacity (length (now (b .args .store)))) (now (b .args .input))
+refuses c why e = header-refused _ _ _ _ (within-limit c) why (sym e ∙ c .parse .ensures)
 
 returns : tie.Need-returns
 unfolding answerOf stored
@@ -49,7 +49,7 @@ returns-2 c =
 
 returns-3 : tie.Need-returns-3
 unfolding answerOf stored header.answerOf
-returns-3 c = (refuses (c .before .before .before) _ _ (ap header.answerOf (c .before .why .given .1)), refl)
+returns-3 c = (refuses (c .before .before .before) _ (ap header.answerOf (c .before .why .given .1)), refl)
 
 pub parse-spec : {M : Type 1} → statement M
 parse-spec =

@@ -8,7 +8,7 @@ use lib.ListN.{length}
 use denote.Ref.{now}
 use borrow.Author.Needs.{needs}
 use borrow.Author.Tests.{not-true, not-false}
-use Rattle.refusal.specs.Answer.{refused}
+use Rattle.refusal.specs.Answer.{Refusal, refused}
 use Rattle.rfc6733.specs.Decoder.{allowed, avpAlone}
 use Rattle.record.specs.Store.{capacity, stored}
 use Rattle.rfc6733.proofs.Decoded.{alone-limit-bad, front-refused}
@@ -28,10 +28,10 @@ within-limit : (c : tie.After-parse) → allowed (start c .args .limit) ≡ true
 within-limit c = let e = c .before in sym (e .before .allowed .ensures) ∙ not-false _ (e .if1 .left)
 
 -- the refusal of what stands at the front
-refuses : (c : tie.After-parse) (n a : ℕ) → front.answerOf (c .parse .result) ≡ refused n a
-    → let b = start c in refused n a ≡ avpAlone (dictionary (b .args .reading)) (b .args .limit) (capacity (length (now (b .args .store)))) (now (b .args .input))
+refuses : (c : tie.After-parse) (why : Refusal) → front.answerOf (c .parse .result) ≡ refused why
+    → let b = start c in refused why ≡ avpAlone (dictionary (b .args .reading)) (b .args .limit) (capacity (length (now (b .args .store)))) (now (b .args .input))
 unfolding front.parsedOf
-refuses c n a e = front-refused _ _ _ _ (within-limit c) (front.avpOf (now (start c .args .input))) n a (sym (c .parse .ensures) ∙ e)
+refuses c why e = front-refused _ _ _ _ (within-limit c) (front.avpOf (now (start c .args .input))) why (sym (c .parse .ensures) ∙ e)
 
 returns : tie.Need-returns
 unfolding avps.answerOf stored
@@ -52,7 +52,7 @@ returns-2 c =
 
 returns-3 : tie.Need-returns-3
 unfolding avps.answerOf stored front.answerOf
-returns-3 c = (refuses (c .before .before .before) _ _ (ap front.answerOf (c .before .why .given .1)), refl)
+returns-3 c = (refuses (c .before .before .before) _ (ap front.answerOf (c .before .why .given .1)), refl)
 
 pub parse-avp-spec : {M : Type 1} → statement M
 parse-avp-spec =

@@ -55,7 +55,7 @@ returns-2 c =
     let answered = read (found .before .before) in
     let b = start answered in
     let p = answered .parse-avps .ensures in
-    refuses _ _ _ _ _ _ (b .pre .0) (b .pre .1) (short b) _ _ refl (told (found .why .given .1) (p .0) (p .1))
+    refuses _ _ _ _ _ _ (b .pre .0) (b .pre .1) (short b) _ refl (told (found .why .given .1) (p .0) (p .1))
 
 pub parse-body-spec : {M : Type 1} → statement M
 parse-body-spec =

@@ -14,7 +14,6 @@ use Rattle.record.specs.Record.{laid}
 use Rattle.rfc6733.specs.Decoder.{messageRecords, decoded}
 use Rattle.record.specs.Store.{stored}
 use Rattle.attribute.specs.Attributes.{dictionary}
-use Rattle.refusal.specs.Refusals.{numberOf, amountOf}
 use Rattle.diameter.specs.declared.Decoded.{Decoded}
 use Rattle.diameter.specs.Answers.{messageAs, answerOf}
 use Rattle.rfc6733.specs.Dump.{refusalText}
@@ -61,12 +60,11 @@ message-text c =
 
 refusal-text : (c : tie.After-why)
     → let p = c .before .before .before in
-    let why = c .why .given .0 .0 in
-    Text (now (start p .args .input)) (refusalText (numberOf why) (amountOf why))
+    Text (now (start p .args .input)) (refusalText (c .why .given .0 .0))
 unfolding answerOf dictionary
 refusal-text c =
     let p = c .before .before .before in
-    refused-text (now (start p .args .input)) (front p) (front-of p) _ _ (sym (ap answerOf (c .why .given .1)) ∙ p .parse .ensures .0)
+    refused-text (now (start p .args .input)) (front p) (front-of p) _ (sym (ap answerOf (c .why .given .1)) ∙ p .parse .ensures .0)
 
 -- ---- the needs
 

@@ -2,19 +2,16 @@
 -- Assumes nothing.
 use native.Mathlib.Omega.{arith}
 use borrow.Author.Needs.{needs}
-use Rattle.record.specs.Stored.{recordAs}
 use Rattle.lines.proofs.put_record.Statement.{statement}
 use Rattle.lines.proofs.put_record.Tie as tie
 
 put-line-requires : tie.Need-put-line-requires
-unfolding recordAs
 put-line-requires c κs =
     let r = c .before .before .before .before .before .before .before .before in
     let e = r .read .ensures in
     (omega arith, rw (← e) at (r .before .before .before .pre))
 
 returns : tie.Need-returns
-unfolding recordAs
 returns c =
     let p = c .before .before in
     let r = p .before .before .before .before .before .before .before .before .before in

@@ -2,13 +2,13 @@
 -- Assumes nothing.
 use Prim.Native.Nat.{ℕ, _-_, _≤_}
 use mathlib.Core.Path.{_≡_, _∙_}
-use mathlib.Core.List.{[], _∷_, _++_}
+use mathlib.Core.List.{List, [], _∷_, _++_}
 use native.Mathlib.Omega.{arith}
 use lib.ListN.{length, length-take, length-drop}
 use denote.Ref.{now}
 use borrow.Rule.Slice.PartMut.{same-len-mid}
 use borrow.Author.Needs.{needs}
-use Rattle.rfc6733.specs.Dump.{refusedWord, line, refusalText}
+use Rattle.rfc6733.specs.Dump.{refusedWord, line}
 use Rattle.refusal.specs.Refusals.{numberOf, amountOf}
 use Rattle.lines.proofs.Puts.{copy-put, Passed, first-passed, all-passed, Ready, ready, passed}
 use Rattle.lines.proofs.put_refusal.Statement.{statement}
@@ -23,17 +23,21 @@ number c = c .before .before .before .before .number .result
 abbrev amount : tie.After-copy → ℕ
 amount c = c .before .before .before .amount .result
 
+-- the line of a number and an amount
+abbrev text : ℕ → ℕ → List ℕ
+text n a = refusedWord ++ (32 ∷ line (n ∷ a ∷ []))
+
 -- the word is put, and there is room for the line
 first : (c : tie.After-copy)
-    → Passed (refusalText (number c) (amount c)) (line (number c ∷ amount c ∷ []) ++ []) (now (start c .args .out)) (c .copy .last .1 .0) (c .copy .result)
+    → Passed (text (number c) (amount c)) (line (number c ∷ amount c ∷ []) ++ []) (now (start c .args .out)) (c .copy .last .1 .0) (c .copy .result)
 first c =
     first-passed (line (number c ∷ amount c ∷ []))
     (copy-put (refusedWord ++ (32 ∷ [])) (now (start c .args .out)) (c .copy .ensures .0) (c .copy .ensures .1))
 
-fits : (c : tie.After-copy) → length (refusalText (number c) (amount c)) ≤ length (now (start c .args .out))
+fits : (c : tie.After-copy) → length (text (number c) (amount c)) ≤ length (now (start c .args .out))
 fits c =
     let b = start c in
-    let as-told : (n a : ℕ) → n ≡ numberOf (b .args .why) → a ≡ amountOf (b .args .why) → length (refusalText n a) ≤ length (now (b .args .out)) =
+    let as-told : (n a : ℕ) → n ≡ numberOf (b .args .why) → a ≡ amountOf (b .args .why) → length (text n a) ≤ length (now (b .args .out)) =
     λ n a e f. rw (e, f) (b .pre)
     in
     as-told (number c) (amount c) (c .before .before .before .before .number .ensures) (c .before .before .before .amount .ensures)

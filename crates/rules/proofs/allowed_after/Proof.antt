@@ -4,16 +4,15 @@ use borrow.Author.Needs.{needs}
 use borrow.Author.Tests.{eq-eqb, ne-eqb}
 use Rattle.record.specs.Kinds.{grouped}
 use Rattle.rfc6733.specs.Writer.{allowedAfter}
-use Rattle.record.specs.Stored.{recordAs}
 use Rattle.rules.proofs.allowed_after.Statement.{statement}
 use Rattle.rules.proofs.allowed_after.Tie as tie
 
 returns : tie.Need-returns
-unfolding allowedAfter recordAs
+unfolding allowedAfter
 returns c = rw (eq-eqb _ grouped (c .before .if1 .taken))
 
 returns-2 : tie.Need-returns-2
-unfolding allowedAfter recordAs
+unfolding allowedAfter
 returns-2 c = rw (ne-eqb _ grouped (c .if1 .left))
 
 pub allowed-after-spec : {M : Type 1} → statement M

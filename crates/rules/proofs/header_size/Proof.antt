@@ -2,12 +2,11 @@
 -- Assumes nothing.
 use borrow.Author.Needs.{needs}
 use Rattle.rfc6733.specs.Writer.{headOf}
-use Rattle.record.specs.Stored.{recordAs}
 use Rattle.rules.proofs.header_size.Statement.{statement}
 use Rattle.rules.proofs.header_size.Tie as tie
 
 returns : tie.Need-returns
-unfolding headOf recordAs
+unfolding headOf
 returns c = c .header-size-of .ensures
 
 pub header-size-spec : {M : Type 1} → statement M

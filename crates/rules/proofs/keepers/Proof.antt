@@ -14,7 +14,6 @@ use Rattle.record.specs.Record.{recordSize}
 use Rattle.record.specs.Table.{entryAt, tableOf}
 use Rattle.rfc6733.specs.Writer.{keeps, keepers}
 use Rattle.round_trip.proofs.Rules.{keeps-good}
-use Rattle.record.specs.Stored.{recordAs}
 use Rattle.rules.proofs.Checks.{stepped, not-stepped, stops, one-more, none-left}
 use Rattle.rules.proofs.keepers.Statement.{statement}
 use Rattle.rules.proofs.keepers.Tie as tie
@@ -47,7 +46,7 @@ available l = l .before .before .args .available
 abbrev left-of : Loop → List ℕ
 left-of l = drop (l .loop .kept * recordSize) (whole l)
 
-record-read : (c : Read) → recordAs (c .get .result) ≡ entryAt (left-of (loop c))
+record-read : (c : Read) → c .get .result ≡ entryAt (left-of (loop c))
 record-read c = let l = loop c in rw (rest (whole l) (l .loop .kept * recordSize) (l .loop .inv .0)) at (c .get .ensures)
 
 -- a record that keeps its own rules keeps all of them, where its depth is allowed
@@ -55,19 +54,18 @@ kept-is : (c : tie.After-keeps Inv-loop μ-loop)
     → let found = c .before .before .before in
     let l = loop found in
     c .keeps .result ≡ keeps (l .loop .allowed) (available l) (entryAt (left-of l))
-unfolding recordAs
 kept-is c =
     let found = c .before .before .before in
     let l = loop found in
-    let r = recordAs (found .get .result) in
+    let r = found .get .result in
     c .keeps .ensures ∙ not-stepped (l .loop .allowed) (available l) r (omega arith) ∙ ap (keeps (l .loop .allowed) (available l)) (record-read found)
 
 returns : tie.Need-returns Inv-loop μ-loop
-unfolding recordAs
 returns c =
     let found = c .before .before in
     let l = loop found in
-    let broken = rw (record-read found) at (stepped (l .loop .allowed) (available l) (recordAs (found .get .result)) (omega arith)) in
+    let step = stepped (l .loop .allowed) (available l) (found .get .result) (omega arith) in
+    let broken = sym (ap (keeps (l .loop .allowed) (available l)) (record-read found)) ∙ step in
     omega (arith, l .loop .inv .1, stops (l .loop .allowed) (available l) (whole l) (l .loop .kept) (omega arith) broken)
 
 returns-2 : tie.Need-returns-2 Inv-loop μ-loop
@@ -77,10 +75,9 @@ returns-2 c =
     omega (arith, l .loop .inv .1, stops (l .loop .allowed) (available l) (whole l) (l .loop .kept) (omega arith) broken)
 
 allowed-after-requires : tie.Need-allowed-after-requires Inv-loop μ-loop
-unfolding recordAs
 allowed-after-requires c κs =
     let found = c .before .before .before .before in
-    keeps-good _ (available (loop found)) (recordAs (found .get .result))
+    keeps-good _ (available (loop found)) (found .get .result)
     (sym (c .before .keeps .ensures) ∙ not-false _ (c .if2 .left)) .most
 
 loop-again : tie.Need-loop-again Inv-loop μ-loop

@@ -3,36 +3,31 @@
 use mathlib.Core.Path.{sym, _∙_}
 use native.Mathlib.Omega.{arith}
 use borrow.Author.Needs.{needs}
-use Rattle.record.specs.Stored.{recordAs}
 use Rattle.rules.proofs.Checks.{too-short, out-of-reach, other-padding, then-unused, stated}
 use Rattle.rules.proofs.keeps_leaf.Statement.{statement}
 use Rattle.rules.proofs.keeps_leaf.Tie as tie
 
 returns : tie.Need-returns
-unfolding recordAs
-returns c = too-short _ (recordAs (c .before .before .before .args .r)) (omega (arith, c .before .header-size .ensures))
+returns c = too-short _ (c .before .before .before .args .r) (omega (arith, c .before .header-size .ensures))
 
 returns-2 : tie.Need-returns-2
-unfolding recordAs
 returns-2 c =
     let sized = c .before .before .before in
     let r = sized .before .before .args .r in
-    out-of-reach _ (recordAs r) (omega (arith, sized .header-size .ensures)) _ (stated (recordAs r) _ (sized .header-size .ensures)) (omega arith)
+    out-of-reach _ r (omega (arith, sized .header-size .ensures)) _ (stated r _ (sized .header-size .ensures)) (omega arith)
 
 returns-3 : tie.Need-returns-3
-unfolding recordAs
 returns-3 c =
     let sized = c .before .before .before .before .before .before in
     let r = sized .before .before .args .r in
-    other-padding _ (recordAs r) (omega (arith, sized .header-size .ensures)) _ (stated (recordAs r) _ (sized .header-size .ensures)) (omega arith)
+    other-padding _ r (omega (arith, sized .header-size .ensures)) _ (stated r _ (sized .header-size .ensures)) (omega arith)
     (λ e. c .if3 .taken (e ∙ sym (c .before .padding .ensures)))
 
 returns-4 : tie.Need-returns-4
-unfolding recordAs
 returns-4 c =
     let sized = c .before .before .before .before .before .before .before in
     let r = sized .before .before .args .r in
-    then-unused _ (recordAs r) (omega (arith, sized .header-size .ensures)) _ (stated (recordAs r) _ (sized .header-size .ensures)) (omega arith)
+    then-unused _ r (omega (arith, sized .header-size .ensures)) _ (stated r _ (sized .header-size .ensures)) (omega arith)
     (c .before .if3 .left ∙ c .before .before .padding .ensures) _ (c .unused-padding .ensures)
 
 pub keeps-leaf-spec : {M : Type 1} → statement M

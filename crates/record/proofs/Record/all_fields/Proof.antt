@@ -2,13 +2,11 @@
 -- Assumes nothing.
 use mathlib.Core.Path.{refl}
 use borrow.Author.Needs.{needs}
-use Rattle.record.specs.Stored.{recordAs}
 use Rattle.record.proofs.Whole.{whole-is}
 use Rattle.record.proofs.Record.all_fields.Statement.{statement}
 use Rattle.record.proofs.Record.all_fields.Tie as tie
 
 returns : tie.Need-returns
-unfolding recordAs
 returns c =
     let taken = c .before .before .before .before .before .before .before .before .before .before in
     whole-is _ _ _ _ (taken .fields .ensures) refl (c .be-u64 .ensures)

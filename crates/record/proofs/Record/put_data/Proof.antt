@@ -7,9 +7,7 @@ use lib.ListN.{drop}
 use lib.Seq.{sets}
 use borrow.Author.Needs.{needs}
 use Rattle.octets.specs.Octets.{octets, pack}
-use Rattle.record.specs.Record.{layout}
-use Rattle.record.specs.declared.Record.{Record}
-use Rattle.record.specs.Stored.{recordAs}
+use Rattle.record.specs.Record.{Record, layout}
 use Rattle.record.proofs.Record.put_data.Statement.{statement}
 use Rattle.record.proofs.Record.put_data.Tie as tie
 
@@ -17,8 +15,8 @@ use Rattle.record.proofs.Record.put_data.Tie as tie
 as-one : (r : Record) (s s₁ s₂ s₃ s₄ s₅ s₆ s₇ : List ℕ) → s₁ ≡ sets s 12 (octets 4 (r .place)) → s₂ ≡ sets s₁ 16 (octets 1 (r .depth))
     → s₃ ≡ sets s₂ 17 (octets 1 (r .kind)) → s₄ ≡ sets s₃ 18 (octets 1 (r .errors)) → s₅ ≡ sets s₄ 19 (octets 1 (r .padding))
     → s₆ ≡ sets s₅ 20 (octets 3 (r .pads) ++ octets 1 0) → s₇ ≡ sets s₆ 24 (octets 8 (r .value))
-    → s₇ ≡ sets s 12 (pack (drop 4 (layout (recordAs r))))
-unfolding octets recordAs
+    → s₇ ≡ sets s 12 (pack (drop 4 (layout r)))
+unfolding octets
 as-one r s s₁ s₂ s₃ s₄ s₅ s₆ s₇ place depth kind errors padding pads value =
     rw (value, pads, padding, errors, kind, depth, place)
 
@@ -31,7 +29,7 @@ returns c =
     let kind = errors .before .before .before .before in
     let depth = kind .before .before .before .before in
     let place = depth .before .before .before .before in
-    as-one _ _ _ _ _ _ _ _ _
+    as-one (place .before .before .before .args .self) _ _ _ _ _ _ _ _
     (place .put-u32 .ensures)
     (depth .put-u8 .ensures)
     (kind .put-u82 .ensures)

@@ -2,12 +2,11 @@
 -- Assumes nothing.
 use borrow.Author.Needs.{needs}
 use Rattle.octets.specs.Octets.{octets}
-use Rattle.record.specs.Stored.{recordAs}
 use Rattle.record.proofs.Record.put_header.Statement.{statement}
 use Rattle.record.proofs.Record.put_header.Tie as tie
 
 returns : tie.Need-returns
-unfolding octets recordAs
+unfolding octets
 returns c =
     let vendor = c .before .before in
     let flags = vendor .before .before .before .before in

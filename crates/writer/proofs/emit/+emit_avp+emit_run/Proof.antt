@@ -22,10 +22,9 @@ use Rattle.rfc6733.specs.Writer.{forestBytes}
 use Rattle.round_trip.specs.Tables.{run, one}
 use Rattle.round_trip.proofs.Lengths.{head-low}
 use Rattle.round_trip.proofs.Turns.{run-end, run-above}
-use Rattle.record.specs.Stored.{recordAs}
 use Rattle.record.proofs.Record.get.Reads as get-reads
 use Rattle.writer.specs.Emitting.{Done}
-use Rattle.rules.proofs.Records.{same, is-group, no-group}
+use Rattle.rules.proofs.Records.{is-group, no-group}
 use Rattle.writer.proofs.Runs.{Going, none-put, Left, left, one-ready, one-put, Further, further, all-put, Group, group, group-done, Single, single, single-done}
 use Rattle.writer.proofs.emit.emit_avp.Reads as emit-avp
 use Rattle.writer.proofs.emit.emit_avp.Kinds as emit-avp-kinds
@@ -93,7 +92,7 @@ module _ (t : ℕ) where
 
   -- the record, the table that it stands at the front of, its members, the pool and the output
   abbrev this : Entry → rfc.Record
-  this b = recordAs (b .args .r)
+  this b = b .args .r
 
   abbrev table : Entry → List ℕ
   table b = now (b .args .table)
@@ -110,7 +109,7 @@ module _ (t : ℕ) where
   this-group : (e : Grouped) → let b = entry e in Group (pool b) (b .args .r .depth) (table b) (this b)
   this-group e =
       let b = entry e in
-      group _ _ _ (this b) (b .pre .1 .0 .0) (same (b .args .r) .depth-is) (b .pre .1 .0 .1) (b .pre .1 .1 .valid)
+      group _ _ _ (this b) (b .pre .1 .0 .0) refl (b .pre .1 .0 .1) (b .pre .1 .1 .valid)
       (is-group (b .args .r) (e .before .if1 .taken))
 
   header-fits : (e : Grouped) → header e ≤ length (output (entry e))
@@ -154,7 +153,7 @@ module _ (t : ℕ) where
   this-single : (c : emit-avp-lts.Else1 (emit-avp-calls t) (emit-avp-at t) emit-avp.Post) → let b = c .before .before .before .before .before in Single (pool b) (table b) (this b)
   this-single c =
       let b = c .before .before .before .before .before in
-      single _ (b .args .r .depth) _ (this b) (b .pre .1 .0 .0) (same (b .args .r) .depth-is) (b .pre .1 .0 .1) (b .pre .1 .1 .valid)
+      single _ (b .args .r .depth) _ (this b) (b .pre .1 .0 .0) refl (b .pre .1 .0 .1) (b .pre .1 .1 .valid)
       (no-group (b .args .r) (c .if1 .left))
 
   emit-avp-emit-run-requires : emit-avp-lts.Need-emit-run-requires (emit-avp-calls t) (emit-avp-at t) emit-avp.Post
@@ -250,11 +249,11 @@ module _ (t : ℕ) where
   size-within : (l : Loop) → l .loop .size ≤ length (l .loop .out)
   size-within l = omega (arith, room-left l, start l .pre .1)
 
-  record-read : (c : Read) → let l = c .before .before .before in recordAs (c .get .result) ≡ entryAt (left-of l)
+  record-read : (c : Read) → let l = c .before .before .before in c .get .result ≡ entryAt (left-of l)
   record-read c = let l = c .before .before .before in rw (rest (whole l) (l .loop .records * recordSize) (l .loop .inv .0)) at (c .get .ensures)
 
   depth-read : (c : Read) → let l = c .before .before .before in entryAt (left-of l) .depth ≡ c .get .result .depth
-  depth-read c = ap (λ (r : rfc.Record). r .depth) (sym (record-read c)) ∙ same (c .get .result) .depth-is
+  depth-read c = ap (λ (r : rfc.Record). r .depth) (sym (record-read c))
 
   deep-enough : (c : Found) → let l = loop c in start l .args .depth ≤ entryAt (left-of l) .depth
   deep-enough c = omega (arith, depth-read (c .before .before))

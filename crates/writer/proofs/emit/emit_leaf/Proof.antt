@@ -10,7 +10,6 @@ use mir.Val.{Fits}
 use denote.Ref.{now}
 use borrow.Rule.Slice.PartMut.{putMid, same-len-mid}
 use borrow.Author.Needs.{needs}
-use Rattle.record.specs.Stored.{recordAs}
 use Rattle.writer.proofs.Leaves.{Numbers, numbers, leaf-put}
 use Rattle.writer.proofs.emit.emit_leaf.Statement.{statement}
 use Rattle.writer.proofs.emit.emit_leaf.Tie as tie
@@ -72,13 +71,12 @@ same-length c =
     same-len-mid n (length l - n) l (padded .put-padding .last .1 .0) (padded .put-padding .kept .1 .0) ∙ copied-length (copied c)
 
 returns : tie.Need-returns
-unfolding recordAs
 returns c =
     let padded = c .before .before .before in
     let d = copied c in
     let p = put d in
     let b = start (sized p) in
-    leaf-put (recordAs (b .args .r)) (now (b .args .pool)) (now (b .args .out)) (b .pre) (p .put-head .last .1 .1 .0) _
+    leaf-put (b .args .r) (now (b .args .pool)) (now (b .args .out)) (b .pre) (p .put-head .last .1 .1 .0) _
     (d .copy .last .1 .0) (padded .put-padding .last .1 .0) (sized p .header-size .result) (sized p .header-size .ensures)
     (p .put-head .ensures) (p .put-head .kept .1 .1 .0) refl (d .copy .ensures .1) (copied-length d) (padded .put-padding .ensures)
 

@@ -8,7 +8,6 @@ use borrow.Author.Tests.{not-true, not-false}
 use borrow.Author.Needs.{needs}
 use Rattle.flags.specs.Flags.{bit}
 use Rattle.rfc6733.specs.Avp.{vendorBit}
-use Rattle.record.specs.Stored.{recordAs}
 use Rattle.writer.proofs.Heads.{head-put, vendor-put, with-vendor}
 use Rattle.writer.proofs.emit.put_head.Statement.{statement}
 use Rattle.writer.proofs.emit.put_head.Tie as tie
@@ -18,27 +17,24 @@ abbrev start : tie.After-put-u24 → tie.Start
 start c = c .before .before .before .before .before .before .before .before .before .before .before
 
 returns : tie.Need-returns
-unfolding recordAs
 returns c =
     let size = c .before .before .before .before in
     let flags = size .before .before .before .before in
     let code = flags .before .before .before .before in
     let b = start size in
     rw (size .put-u24 .ensures, flags .put-u8 .ensures, code .put-u32 .ensures)
-    (head-put (recordAs (b .args .r)) (b .args .n) (now (b .args .out)) (sym (c .before .vendor-specific-flag .ensures) ∙ not-true _ (c .if1 .taken))
+    (head-put (b .args .r) (b .args .n) (now (b .args .out)) (sym (c .before .vendor-specific-flag .ensures) ∙ not-true _ (c .if1 .taken))
     (omega (arith, b .pre)))
 
-vendor-there : (c : tie.Else1) → let r = recordAs (start (c .before .before .before .before) .args .r) in bit vendorBit (r .flags) ≡ true
-unfolding recordAs
+vendor-there : (c : tie.Else1) → let r = (start (c .before .before .before .before) .args .r) in bit vendorBit (r .flags) ≡ true
 vendor-there c = sym (c .before .vendor-specific-flag .ensures) ∙ not-false _ (c .if1 .left)
 
 put-u32-requires-2 : tie.Need-put-u32-requires-2
 put-u32-requires-2 c κs =
     let b = start (c .before .before .before .before .before) in
-    omega (arith, b .pre, with-vendor (recordAs (b .args .r)) (vendor-there (c .before)))
+    omega (arith, b .pre, with-vendor (b .args .r) (vendor-there (c .before)))
 
 returns-2 : tie.Need-returns-2
-unfolding recordAs
 returns-2 c =
     let vendor = c .before .before in
     let asked = vendor .before .before in
@@ -46,7 +42,7 @@ returns-2 c =
     let flags = size .before .before .before .before in
     let code = flags .before .before .before .before in
     let b = start size in
-    let r = recordAs (b .args .r) in
+    let r = (b .args .r) in
     rw (vendor .put-u322 .ensures, size .put-u24 .ensures, flags .put-u8 .ensures, code .put-u32 .ensures)
     (vendor-put r (b .args .n) (now (b .args .out)) (vendor-there asked) (omega (arith, b .pre, with-vendor r (vendor-there asked))))
 

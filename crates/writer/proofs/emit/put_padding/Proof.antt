@@ -7,16 +7,14 @@ use lib.ListN.{take, length-take}
 use denote.Ref.{now}
 use borrow.Author.Needs.{needs}
 use Rattle.round_trip.proofs.Lengths.{pad-length}
-use Rattle.record.specs.Stored.{recordAs}
 use Rattle.octets.proofs.Lists.{copied}
 use Rattle.writer.proofs.emit.put_padding.Statement.{statement}
 use Rattle.writer.proofs.emit.put_padding.Tie as tie
 
 slice-aggregate-copy : tie.Need-slice-aggregate-copy
-unfolding recordAs
 slice-aggregate-copy c =
     let start = c .before .before .before .before in
-    rw (c .before .before .to-be-u24 .ensures) (sym (pad-length (recordAs (start .args .r)) (start .pre .1)))
+    rw (c .before .before .to-be-u24 .ensures) (sym (pad-length (start .args .r) (start .pre .1)))
 
 copy-requires : tie.Need-copy-requires
 copy-requires c κs =
@@ -24,7 +22,6 @@ copy-requires c κs =
     omega (arith, start .pre, length-take (start .args .r .padding) (c .before .before .before .to-be-u24 .result))
 
 returns : tie.Need-returns
-unfolding recordAs
 returns c =
     let start = c .before .before .before .before .before .before .before .before in
     let r = start .args .r in

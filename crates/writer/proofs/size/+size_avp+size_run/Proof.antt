@@ -3,7 +3,7 @@
 -- is what is left of the table, twice, and one more for a run: it falls from a run to its records and from a group inwards.
 -- Assumes nothing.
 use Prim.Native.Nat.{ℕ, _+_, _-_, _*_, _≤_, _<_}
-use mathlib.Core.Path.{_≡_, sym, ap, _∙_}
+use mathlib.Core.Path.{_≡_, refl, sym, ap, _∙_}
 use mathlib.Core.List.{List}
 use native.Mathlib.Omega.{arith}
 use lib.ListN.{length, drop, length-drop}
@@ -18,10 +18,9 @@ use Rattle.record.specs.Forest.{Forest}
 use Rattle.record.specs.Table.{entryAt}
 use Rattle.round_trip.specs.Tables.{run, one}
 use Rattle.round_trip.proofs.Turns.{run-end, run-above}
-use Rattle.record.specs.Stored.{recordAs}
 use Rattle.record.proofs.Record.get.Reads as get-reads
 use Rattle.writer.specs.Sizing.{sizedOf}
-use Rattle.rules.proofs.Records.{same, is-group, no-group}
+use Rattle.rules.proofs.Records.{is-group, no-group}
 use Rattle.writer.proofs.Sizes.{Known, is-over, is-size, was-over, was-size, Passed, none-passed, one-orderly, then-over, one-passed, Further, further, then-ends, Inside, inside, Alone, alone}
 use Rattle.writer.proofs.size.size_avp.Reads as size-avp
 use Rattle.writer.proofs.size.size_avp.Kinds as size-avp-kinds
@@ -72,7 +71,7 @@ module _ (t : ℕ) where
 
   -- the record, the table that it stands at the front of, and its members
   abbrev this : Entry → rfc.Record
-  this b = recordAs (b .args .r)
+  this b = b .args .r
 
   abbrev table : Entry → List ℕ
   table b = now (b .args .table)
@@ -84,7 +83,7 @@ module _ (t : ℕ) where
       → let b = c .before .before .before .before in (left : ℕ) → left ≤ b .args .left → Inside (b .args .r .depth) (table b) (this b) left
   group-inside c =
       let b = c .before .before .before .before in
-      inside _ _ (this b) _ (b .pre .1 .0 .0) (same (b .args .r) .depth-is) (b .pre .1 .0 .1) (b .pre .1 .1)
+      inside _ _ (this b) _ (b .pre .1 .0 .0) refl (b .pre .1 .0 .1) (b .pre .1 .1)
       (is-group (b .args .r) (c .before .if1 .taken))
 
   -- with what is left after its header
@@ -106,7 +105,7 @@ module _ (t : ℕ) where
   one-alone : (c : size-avp-lts.Else1 (size-avp-calls t) (size-avp-at t) size-avp.Post) → let b = c .before .before .before in Alone (table b) (this b)
   one-alone c =
       let b = c .before .before .before in
-      alone _ _ (this b) _ (b .pre .1 .0 .0) (same (b .args .r) .depth-is) (b .pre .1 .0 .1) (b .pre .1 .1)
+      alone _ _ (this b) _ (b .pre .1 .0 .0) refl (b .pre .1 .0 .1) (b .pre .1 .1)
       (no-group (b .args .r) (c .if1 .left))
 
   size-avp-returns : size-avp-lts.Need-returns (size-avp-calls t) (size-avp-at t) size-avp.Post
@@ -134,12 +133,11 @@ module _ (t : ℕ) where
       is-size (record { fits = omega arith; records-are = omega arith; size-is = omega arith })
 
   size-avp-returns-4 : size-avp-lts.Need-returns-4 (size-avp-calls t) (size-avp-at t) size-avp.Post
-  size-avp-returns-4 c = is-over _ _ (omega (arith, one-alone (c .before .before .before), same (c .before .before .before .before .before .before .args .r)))
+  size-avp-returns-4 c = is-over _ _ (omega (arith, one-alone (c .before .before .before)))
 
   size-avp-returns-5 : size-avp-lts.Need-returns-5 (size-avp-calls t) (size-avp-at t) size-avp.Post
   size-avp-returns-5 c =
       let a = one-alone (c .before .before .before) in
-      let s = same (c .before .before .before .before .before .before .args .r) in
       is-size (record { fits = omega arith; records-are = omega arith; size-is = omega arith })
 
 -- ---- `size_run`
@@ -178,11 +176,11 @@ module _ (t : ℕ) where
   abbrev left-of : Loop → List ℕ
   left-of l = drop (l .loop .records * recordSize) (whole l)
 
-  record-read : (c : Read) → let l = c .before .before .before in recordAs (c .get .result) ≡ entryAt (left-of l)
+  record-read : (c : Read) → let l = c .before .before .before in c .get .result ≡ entryAt (left-of l)
   record-read c = let l = c .before .before .before in rw (rest (whole l) (l .loop .records * recordSize) (l .loop .inv .0)) at (c .get .ensures)
 
   depth-read : (c : Read) → let l = c .before .before .before in entryAt (left-of l) .depth ≡ c .get .result .depth
-  depth-read c = ap (λ (r : rfc.Record). r .depth) (sym (record-read c)) ∙ same (c .get .result) .depth-is
+  depth-read c = ap (λ (r : rfc.Record). r .depth) (sym (record-read c))
 
   deep-enough : (c : Found) → let l = loop c in l .before .before .args .depth ≤ entryAt (left-of l) .depth
   deep-enough c = omega (arith, depth-read (c .before .before))
