@@ -8,7 +8,7 @@ use native.Mathlib.Nat.{pow-suc, pow-succ', mod-one, div-one, div-div-eq-div-mul
 use native.Mathlib.Omega.{arith}
 use lib.Arith.{mod-mul, digits-div, digits-mod}
 use lib.ListN.{length, getD, take, drop, length-append, length-drop, List·getD-append}
-use lib.Seq.{getD-append-seam, getD-append-add, getD-take, getD-drop, take-suc, take-all}
+use lib.Seq.{getD-at, getD-append-add, getD-take, getD-drop, take-suc, take-all}
 use Rattle.octets.specs.Octets.{be, octets, Field, field, pack, widths, Bytes, Reads}
 
 -- ---- a number looks at its own bytes alone
@@ -18,9 +18,6 @@ unfolding be
 be-same zero s t i k h = refl
 be-same (suc n) s t i k h = ap₂ (λ (x y : ℕ). x * 256 + y) (be-same n s t i k (λ j l. h j (omega arith))) (h n (omega arith))
 
-pub be-drop : (n : ℕ) (s : List ℕ) (k i : ℕ) → be n (drop k s) i ≡ be n s (k + i)
-be-drop n s k i = be-same n (drop k s) s i (k + i) (λ j l. getD-drop k s (i + j) 0 ∙ ap (λ (x : ℕ). getD s x 0) (sym (add-assoc k i j)))
-
 pub be-take : (n : ℕ) (s : List ℕ) (k i : ℕ) → i + n ≤ k → be n (take k s) i ≡ be n s i
 be-take n s k i h = be-same n (take k s) s i i (λ j l. getD-take k s (i + j) 0 (omega arith))
 
@@ -28,9 +25,7 @@ pub be-front : (n : ℕ) (s t : List ℕ) (i : ℕ) → i + n ≤ length s → b
 be-front n s t i h = be-same n (s ++ t) s i i (λ j l. List·getD-append s t 0 (i + j) (omega arith))
 
 pub be-behind : (n : ℕ) (s t : List ℕ) (i : ℕ) → be n (s ++ t) (length s + i) ≡ be n t i
-be-behind n s t i =
-    be-same n (s ++ t) t (length s + i) i
-    (λ j l. ap (λ (x : ℕ). getD (s ++ t) x 0) (add-assoc (length s) i j) ∙ getD-append-add s t (i + j) 0)
+be-behind n s t i = be-same n (s ++ t) t (length s + i) i (λ j l. rw (add-assoc, getD-append-add))
 
 -- ---- numbers that code reads from single bytes
 
@@ -41,11 +36,11 @@ bytes (suc n) s i = getD s i 0 ∷ bytes n s (i + 1)
 
 byte-at : (n : ℕ) (s : List ℕ) (i j : ℕ) → j < n → getD (bytes n s i) j 0 ≡ getD s (i + j) 0
 byte-at zero s i j h = absurd (omega arith)
-byte-at (suc n) s i zero h = ap (λ (k : ℕ). getD s k 0) (sym (add-zero i))
+byte-at (suc n) s i zero h = rw add-zero
 byte-at (suc n) s i (suc j) h = byte-at n s (i + 1) j (omega arith) ∙ ap (λ (k : ℕ). getD s k 0) (omega arith)
 
 pub read-at : (n : ℕ) (s : List ℕ) (i r : ℕ) → Reads n (bytes n s i) r → r ≡ be n s i
-read-at n s i r h = h .is ∙ be-same n (bytes n s i) s 0 i (λ j l. ap (λ (k : ℕ). getD (bytes n s i) k 0) (zero-add j) ∙ byte-at n s i j l)
+read-at n s i r h = h .is ∙ be-same n (bytes n s i) s 0 i (λ j l. rw zero-add (byte-at n s i j l))
 
 pub one-byte : (s : List ℕ) (i : ℕ) → be 1 s i ≡ getD s i 0
 unfolding be
@@ -56,19 +51,16 @@ one-byte s i = simp (add-zero, zero-add)
 pub length-octets : (n v : ℕ) → length (octets n v) ≡ n
 unfolding octets
 length-octets zero v = refl
-length-octets (suc n) v = let l = length-octets n (v / 256) in length-append (octets n (v / 256)) (v % 256 ∷ []) ∙ omega arith
+length-octets (suc n) v = simp length-append (omega (arith, length-octets n (v / 256)))
 
 pub length-pack : (fs : List Field) → length (pack fs) ≡ widths fs
 length-pack [] = refl
-length-pack (f ∷ fs) =
-    let l = length-octets (f .width) (f .number) in
-    let m = length-pack fs in
-    length-append (octets (f .width) (f .number)) (pack fs) ∙ omega arith
+length-pack (f ∷ fs) = simp length-append (omega (arith, length-octets (f .width) (f .number), length-pack fs))
 
 pub be-small : (n : ℕ) (s : List ℕ) (i : ℕ) → Bytes s → be n s i < 256 ^ n
 unfolding be
 be-small zero s i h = omega arith
-be-small (suc n) s i h = rw pow-suc (let l = be-small n s i h in omega (arith, h (i + n)))
+be-small (suc n) s i h = rw pow-suc (omega (arith, be-small n s i h, h (i + n)))
 
 -- ---- writing and reading are inverse
 
@@ -78,12 +70,15 @@ read-written zero v = sym (mod-one v)
 read-written (suc n) v =
     let w = octets n (v / 256) in
     let l = length-octets n (v / 256) in
-    let high : be n (w ++ (v % 256 ∷ [])) 0 ≡ v / 256 % 256 ^ n = be-front n w (v % 256 ∷ []) 0 (omega arith) ∙ read-written n (v / 256) in
-    let low : getD (w ++ (v % 256 ∷ [])) (0 + n) 0 ≡ v % 256 =
-    ap (λ (x : ℕ). getD (w ++ (v % 256 ∷ [])) x 0) (zero-add n ∙ sym l) ∙ getD-append-seam w (v % 256) [] 0
-    in
-    ap₂ (λ (x y : ℕ). x * 256 + y) high low
-    ∙ sym (ap (λ (x : ℕ). v % x) (pow-suc 256 n) ∙ mod-mul v (one-le-pow n 256 (zero-lt-suc 255)) (zero-lt-suc 255))
+    let positive : 0 < 256 ^ n = one-le-pow n 256 (omega arith) in
+    rw (
+      be-front n w (v % 256 ∷ []) 0 (omega arith),
+      read-written n (v / 256),
+      zero-add,
+      getD-at w (v % 256) [] 0 n l,
+      pow-suc,
+      mod-mul v positive (zero-lt-suc 255),
+    )
 
 pub written-read : (n : ℕ) (s : List ℕ) (i : ℕ) → i + n ≤ length s → Bytes s → octets n (be n s i) ≡ take n (drop i s)
 unfolding be octets
@@ -93,28 +88,18 @@ written-read (suc n) s i h b =
     let c = getD s (i + n) 0 in
     let high : (x * 256 + c) / 256 ≡ x = omega (arith, b (i + n)) in
     let low : (x * 256 + c) % 256 ≡ c = omega (arith, b (i + n)) in
-    let d = length-drop i s in
-    ap₂ (λ (y z : ℕ). octets n y ++ (z ∷ [])) high low
-    ∙ ap₂ (λ (l : List ℕ) (z : ℕ). l ++ (z ∷ [])) (written-read n s i (omega arith) b) (sym (getD-drop i s n 0))
-    ∙ sym (take-suc (drop i s) n 0 (omega arith))
+    rw (high, low, take-suc (drop i s) n 0 (omega (arith, length-drop i s)), getD-drop, written-read n s i (omega arith) b)
 
 -- ---- a field of a layout is the number that was packed
 
 pub read-field : (before : List Field) (w v : ℕ) (rest : List Field) (more : List ℕ)
     → be w (pack (before ++ (field w v ∷ rest)) ++ more) (widths before) ≡ v % 256 ^ w
 read-field [] w v rest more =
-    let l = length-octets w v in
-    ap (λ (s : List ℕ). be w s 0) (append-assoc (octets w v) (pack rest) more)
-    ∙ be-front w (octets w v) (pack rest ++ more) 0 (omega arith)
-    ∙ read-written w v
+    rw (append-assoc, be-front w (octets w v) (pack rest ++ more) 0 (omega (arith, length-octets w v)), read-written)
 read-field (f ∷ fs) w v rest more =
     let o = octets (f .width) (f .number) in
-    let l = length-octets (f .width) (f .number) in
-    let t = pack (fs ++ (field w v ∷ rest)) in
-    ap (λ (s : List ℕ). be w s (f .width + widths fs)) (append-assoc o t more)
-    ∙ ap (λ (x : ℕ). be w (o ++ (t ++ more)) (x + widths fs)) (sym l)
-    ∙ be-behind w o (t ++ more) (widths fs)
-    ∙ read-field fs w v rest more
+    let at : f .width + widths fs ≡ length o + widths fs = omega (arith, length-octets (f .width) (f .number)) in
+    rw (append-assoc, at, be-behind) (read-field fs w v rest more)
 
 -- ---- the parts of a number
 
@@ -137,19 +122,13 @@ octets-bytes (suc n) v i =
 pub written-low : (n v : ℕ) → octets n (v % 256 ^ n) ≡ octets n v
 written-low n v =
     let l = length-octets n v in
-    ap (octets n) (sym (read-written n v))
-    ∙ written-read n (octets n v) 0 (omega arith) (octets-bytes n v)
-    ∙ take-all n (octets n v) (omega arith)
+    rw (← read-written, written-read n (octets n v) 0 (omega arith) (octets-bytes n v), take-all n (octets n v) (omega arith))
 
 -- the high bytes and the low ones
 pub written-parts : (m n v : ℕ) → octets (m + n) v ≡ octets m (v / 256 ^ n) ++ octets n v
 unfolding octets
-written-parts m zero v = ap₂ octets (add-zero m) (sym (div-one v)) ∙ sym (append-nil (octets m (v / 1)))
-written-parts m (suc n) v =
-    ap (λ (k : ℕ). octets k v) (add-suc m n)
-    ∙ ap (λ (l : List ℕ). l ++ (v % 256 ∷ [])) (written-parts m n (v / 256))
-    ∙ append-assoc (octets m (v / 256 / 256 ^ n)) (octets n (v / 256)) (v % 256 ∷ [])
-    ∙ ap (λ (q : ℕ). octets m q ++ octets (suc n) v) (div-div-eq-div-mul v 256 (256 ^ n) ∙ ap (λ (d : ℕ). v / d) (sym (pow-succ' 256 n)))
+written-parts m zero v = rw (add-zero, append-nil, div-one)
+written-parts m (suc n) v = rw (add-suc, written-parts m n (v / 256), append-assoc, div-div-eq-div-mul, pow-succ')
 
 -- the two parts of a number written as one
 pub written-joined : (m n h l : ℕ) → octets (m + n) (h * 256 ^ n + l % 256 ^ n) ≡ octets m h ++ octets n l
@@ -157,5 +136,4 @@ written-joined m n h l =
     let k = 256 ^ n in
     let v = h * k + l % k in
     let small : l % k < k = mod-lt l (one-le-pow n 256 (omega arith)) in
-    written-parts m n v
-    ∙ ap₂ _++_ (ap (octets m) (digits-div h small)) (sym (written-low n v) ∙ ap (octets n) (digits-mod h small) ∙ written-low n l)
+    rw (written-parts, digits-div h small, ← written-low n v, digits-mod h small, written-low)

@@ -1,7 +1,7 @@
 -- The equations of `tree`, with no count in them, and induction over a run. A complete item takes a byte at least, so what is
 -- left after it is shorter; its payload is shorter too. Any count from the length on therefore gives the same tree.
 -- Assumes nothing.
-use Prim.Native.Nat.{ℕ, zero, suc, _+_, _-_, _≤_, _<_}
+use Prim.Native.Nat.{ℕ, zero, suc, _-_, _≤_, _<_}
 use mathlib.Core.Path.{_≡_, refl, ap, ap₂, _∙_}
 use mathlib.Core.Bool.{Bool, true, false}
 use mathlib.Core.List.{List, [], _∷_, _++_}
@@ -58,23 +58,18 @@ module _ (F : Format) (ok : Sound F) where
   same (suc n) zero (b ∷ s) hn hk = absurd (omega arith)
   same (suc n) (suc k) [] hn hk = refl
   same (suc n) (suc k) (b ∷ s) hn hk =
-      node-same (F .complete (b ∷ s)) (F .nested (item F (b ∷ s))) (item F (b ∷ s)) _ _ _ _
-      (λ e.
-      let p = parts (b ∷ s) e in (
-        same n k (F .payload (item F (b ∷ s))) (omega arith) (omega arith),
-        same n k (after F (b ∷ s)) (omega arith) (omega arith),
-      ))
+      node-same _ _ _ _ _ _ _ (λ e. let p = parts (b ∷ s) e in (same n k _ (omega arith) (omega arith), same n k _ (omega arith) (omega arith)))
 
   pub tree-step : (s : List ℕ) → 0 < length s
       → tree F s ≡ node (F .complete s) (F .nested (item F s)) (item F s) (tree F (F .payload (item F s))) (tree F (after F s))
   unfolding tree treeIn
   tree-step [] h = absurd (omega arith)
   tree-step (b ∷ s) h =
-      node-same (F .complete (b ∷ s)) (F .nested (item F (b ∷ s))) (item F (b ∷ s)) _ _ _ _
+      node-same _ _ _ _ _ _ _
       (λ e.
       let p = parts (b ∷ s) e in (
-        same (length s) (length (F .payload (item F (b ∷ s)))) (F .payload (item F (b ∷ s))) (omega arith) (omega arith),
-        same (length s) (length (after F (b ∷ s))) (after F (b ∷ s)) (omega arith) (omega arith),
+        same (length s) (length (F .payload (item F (b ∷ s)))) _ (omega arith) (omega arith),
+        same (length s) (length (after F (b ∷ s))) _ (omega arith) (omega arith),
       ))
 
   -- Induction over a run: the empty one; and one with a byte, from its first item's payload and from what follows, where that item is complete.
@@ -88,10 +83,7 @@ module _ (F : Format) (ok : Sound F) where
       go zero (b ∷ t) h = absurd (omega arith)
       go (suc n) [] h = none
       go (suc n) (b ∷ t) h =
-          some (b ∷ t) (omega arith)
-          (λ e.
-          let p = parts (b ∷ t) e in
-          (p, go n (F .payload (item F (b ∷ t))) (omega arith), go n (after F (b ∷ t)) (omega arith)))
+          some (b ∷ t) (omega arith) (λ e. let p = parts (b ∷ t) e in (p, go n _ (omega arith), go n _ (omega arith)))
 
 pub tree-none : (F : Format) → tree F [] ≡ done
 unfolding tree treeIn
@@ -116,11 +108,10 @@ covered-node : (c b : Bool) (F : Format) (s : List ℕ) (i r : Tree)
     → (c ≡ true → Parts F s × (tiles r ≡ true → covered r ≡ after F s))
     → tiles (node c b (item F s) i r) ≡ true → covered (node c b (item F s) i r) ≡ s
 covered-node false b F s i r h t = absurd (false-true t)
-covered-node true true F s i r h t = ap (λ (x : List ℕ). item F s ++ x) (h refl .1 t) ∙ h refl .0 .whole
-covered-node true false F s i r h t = ap (λ (x : List ℕ). item F s ++ x) (h refl .1 t) ∙ h refl .0 .whole
+covered-node true true F s i r h t = rw (h refl .1 t) (h refl .0 .whole)
+covered-node true false F s i r h t = rw (h refl .1 t) (h refl .0 .whole)
 
 pub covered-all : (F : Format) → Sound F → (s : List ℕ) → tiles (tree F s) ≡ true → covered (tree F s) ≡ s
 covered-all F ok =
-    by-run F ok (λ (s : List ℕ). tiles (tree F s) ≡ true → covered (tree F s) ≡ s) (λ t. ap covered (tree-none F))
-    (λ s pos h. rw (tree-step F ok s pos)
-    (covered-node (F .complete s) (F .nested (item F s)) F s (tree F (F .payload (item F s))) (tree F (after F s)) (λ e. (h e .0, h e .2))))
+    by-run F ok (λ (s : List ℕ). tiles (tree F s) ≡ true → covered (tree F s) ≡ s) (λ t. rw tree-none)
+    (λ s pos h. rw (tree-step F ok s pos) (covered-node _ _ F s _ _ (λ e. (h e .0, h e .2))))

@@ -10,6 +10,4 @@ unfolding octets
 returns c = rw (c .to-be-u24 .ensures)
 
 pub to-be-u32-spec : {M : Type 1} → statement M
-to-be-u32-spec =
-    tie.close
-    (tie.spec (λ c κs. search needs) (λ c. search needs) (λ c. search needs) (λ c. search needs) (λ c. search needs) returns)
+to-be-u32-spec {M} = tie.close (search (tie.spec {M = M} (λ c κs. search needs) (λ c. search needs), returns, needs))

@@ -1,8 +1,5 @@
 -- `to_be_u64` meets its contract: its two halves are numbers of four bytes, and the bytes of a number are those of its halves.
 -- Assumes nothing.
-use Prim.Native.Nat.{ℕ, _/_, _^_}
-use mathlib.Core.Path.{sym, ap, _∙_}
-use mathlib.Core.List.{List, _++_}
 use borrow.Author.Needs.{needs}
 use Rattle.octets.specs.Octets.{octets}
 use Rattle.octets.proofs.Numbers.{written-low, written-parts}
@@ -13,8 +10,7 @@ returns : tie.Need-returns
 unfolding octets
 returns c =
     let v = c .before .before .args .v in
-    rw (c .before .to-be-u32 .ensures, c .to-be-u322 .ensures)
-    (ap (λ (l : List ℕ). octets 4 (v / 256 ^ 4) ++ l) (written-low 4 v) ∙ sym (written-parts 4 4 v))
+    rw (c .before .to-be-u32 .ensures, c .to-be-u322 .ensures) (cc (written-low 4 v, written-parts 4 4 v))
 
 pub to-be-u64-spec : {M : Type 1} → statement M
 to-be-u64-spec {M} = tie.close (search (tie.spec {M = M} (λ c. search needs) (λ c κs. search needs) (λ c. search needs), returns, needs))
