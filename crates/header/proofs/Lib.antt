@@ -1,3 +1,2 @@
 pub mod AnswerOf
-pub mod Fields
 pub mod HeaderAlone

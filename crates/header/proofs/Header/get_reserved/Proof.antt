@@ -5,7 +5,7 @@ use Rattle.header.proofs.Header.get_reserved.Statement.{statement}
 use Rattle.header.proofs.Header.get_reserved.Tie as tie
 
 returns : tie.Need-returns
-returns c = and-mask (c .before .args .self .flags) 4
+returns c = and-mask _ 4
 
 pub get-reserved-spec : {M : Type 1} → statement M
 get-reserved-spec = tie.close (tie.spec returns)

@@ -1,12 +1,11 @@
 -- `is_proxiable` meets its contract: `PROXIABLE_FLAG` is the mask of the bit, `2 ^ proxiableBit`.
 -- Assumes nothing.
-use Rattle.rfc6733.specs.Header.{proxiableBit}
 use Rattle.flags.proofs.Masks.{mask-bit}
 use Rattle.header.proofs.Header.is_proxiable.Statement.{statement}
 use Rattle.header.proofs.Header.is_proxiable.Tie as tie
 
 returns : tie.Need-returns
-returns c = mask-bit proxiableBit (c .before .args .self .flags)
+returns c = mask-bit _ _
 
 pub is-proxiable-spec : {M : Type 1} → statement M
 is-proxiable-spec = tie.close (tie.spec returns)

@@ -1,15 +1,11 @@
 -- `reserved_set` meets its contract: `RESERVED_MASK` is `2 ^ 4 - 1`, the mask of the lowest four bits.
 -- Assumes nothing.
-use Prim.Native.Nat.{ℕ}
-use mathlib.Core.Path.{ap}
-use mathlib.Core.Bool.{not}
 use lib.Bits.{and-mask}
-use lib.Dec.{eqb}
 use Rattle.header.proofs.Header.reserved_set.Statement.{statement}
 use Rattle.header.proofs.Header.reserved_set.Tie as tie
 
 returns : tie.Need-returns
-returns c = ap (λ (n : ℕ). not (eqb n 0)) (and-mask (c .args .flags) 4)
+returns c = rw (and-mask (c .args .flags) 4)
 
 pub reserved-set-spec : {M : Type 1} → statement M
 reserved-set-spec = tie.close (tie.spec returns)
