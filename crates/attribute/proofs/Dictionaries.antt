@@ -5,11 +5,11 @@
 use Prim.Native.Nat.{ℕ, max, _≤_, _<_}
 use mathlib.Core.Path.{_≡_, refl, sym, ap, _∙_, fun-ext}
 use mathlib.Core.Bool.{Bool, true, false, not, cond, _||_}
-use mathlib.Core.List.{List, [], _∷_, _++_}
+use mathlib.Core.List.{List, [], _∷_, _++_, map}
 use native.Mathlib.Omega.{arith}
 use lib.ListN.{getD}
 use lib.Dec.{leb, ltb, eqb}
-use borrow.Author.Tests.{ne-eqb, ltb-true, ltb-false, le-leb}
+use borrow.Author.Tests.{ne-eqb, ltb-false, le-leb}
 use Rattle.rfc6733.specs.Value.{Value, oneOf}
 use Rattle.record.specs.Kinds.{unhandled, time}
 use Rattle.rfc6733.specs.Dictionary.{Dictionary, Row, kindIn, baseAvps, sawpAvps, familyAddress, bareAddress, sawp, rfc}
@@ -21,13 +21,12 @@ use Rattle.attribute.specs.declared.Reading.{Reading}
 use Rattle.attribute.specs.declared.Reading.the-variants.{Sawp, Rfc}
 use Rattle.attribute.specs.Kinds.{Codes, kindsByCode, kindAmong}
 use Rattle.attribute.specs.Tables.{table}
-use Rattle.attribute.proofs.Tables.{table-entry, past-table, same-by-list}
+use Rattle.attribute.proofs.Tables.{table-at, same-by-list}
 
 -- ---- off the codes of a table
 
 abbrev codesIn : List Row → List ℕ
-codesIn [] = []
-codesIn (r ∷ rs) = r .code ∷ codesIn rs
+codesIn = map (λ r. r .code)
 
 abbrev codesAmong : List Codes → List ℕ
 codesAmong [] = []
@@ -53,13 +52,11 @@ not-listed (x ∷ cs) c h = rw (ne-eqb c x (λ e. omega arith)) (not-listed cs c
 
 -- so the first 512 entries are the table
 entry-of : (rs : List Row) → greatest (codesIn rs) < 512 → (c : ℕ) → getD (table (kindIn rs) 512) c unhandled ≡ kindIn rs c
-entry-of rs within c = by (ltb c 512) refl
+entry-of rs within c = table-at (kindIn rs) 512 c unhandled ∙ by (ltb c 512) refl
   where
-    by : (b : Bool) → ltb c 512 ≡ b → getD (table (kindIn rs) 512) c unhandled ≡ kindIn rs c
-    by true t = table-entry (kindIn rs) 512 c (ltb-true c 512 t)
-    by false t =
-        let past = ltb-false c 512 t in
-        past-table (kindIn rs) 512 c unhandled past ∙ sym (off-rows rs c (not-listed (codesIn rs) c (omega arith)))
+    by : (b : Bool) → ltb c 512 ≡ b → cond b (kindIn rs c) unhandled ≡ kindIn rs c
+    by true t = refl
+    by false t = let past = ltb-false c 512 t in rw (off-rows rs c (not-listed (codesIn rs) c (omega arith)))
 
 -- ---- the readings beside one another, and beside the table of docs/FORMAT.md
 
@@ -73,8 +70,7 @@ document-kinds c =
 -- ---- the greatest kind
 
 abbrev greatestKind : List Row → ℕ
-greatestKind [] = 0
-greatestKind (r ∷ rs) = max (r .kind) (greatestKind rs)
+greatestKind rs = greatest (map (λ r. r .kind) rs)
 
 kind-within : (rs : List Row) (c : ℕ) → kindIn rs c ≤ greatestKind rs
 kind-within [] c = omega arith
@@ -86,28 +82,23 @@ kind-within (r ∷ rs) c = by (eqb c (r .code)) (kind-within rs c)
 
 -- ---- a lent table
 
-known-known : (k : ℕ) → known (known k) ≡ known k
-known-known k = by (leb k time) refl
-  where
-    by : (b : Bool) → leb k time ≡ b → known (cond b k unhandled) ≡ cond b k unhandled
-    by true e = rw e
-    by false e = refl
-
 -- what is found for a code is a kind, whatever the bytes of the table are
 pub kind-is-known : (d : declared.Dictionary) (ks : List ℕ) (c v : ℕ) → known (dictionaryBy d ks .kind c v) ≡ dictionaryBy d ks .kind c v
 unfolding dictionaryBy kindBy
-kind-is-known d ks c v = by (not (d .vendors) || eqb v 0)
+kind-is-known d ks c v = by (not (d .vendors) || eqb v 0) (leb (getD ks c unhandled) time) refl
   where
-    by : (b : Bool) → let k = cond b (known (getD ks c unhandled)) unhandled in known k ≡ k
-    by true = known-known (getD ks c unhandled)
-    by false = refl
+    by : (b q : Bool) → leb (getD ks c unhandled) time ≡ q
+        → let k = cond b (cond q (getD ks c unhandled) unhandled) unhandled in known k ≡ k
+    by true true e = rw e
+    by true false e = refl
+    by false q e = refl
 
 -- the table of a list of rows, each of a kind
 listed-kind : (rs : List Row) → greatest (codesIn rs) < 512 → greatestKind rs ≤ time → (c : ℕ)
     → known (getD (table (kindIn rs) 512) c unhandled) ≡ kindIn rs c
 listed-kind rs codes kinds c =
     let within : kindIn rs c ≤ time = omega (arith, kind-within rs c) in
-    ap known (entry-of rs codes c) ∙ rw (le-leb _ _ within)
+    rw (entry-of rs codes c, le-leb _ _ within)
 
 same-kinds : {k k′ : ℕ → ℕ → ℕ} (asAddress : List ℕ → Value) → ((c v : ℕ) → k c v ≡ k′ c v)
     → _≡_ {A = Dictionary} (record { kind = k; asAddress = asAddress }) (record { kind = k′; asAddress = asAddress })

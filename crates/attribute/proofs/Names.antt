@@ -4,7 +4,7 @@
 use Prim.Native.Nat.{ℕ}
 use mathlib.Core.Path.{_≡_, refl}
 use mathlib.Core.Bool.{false}
-use mathlib.Core.List.{List, [], _∷_}
+use mathlib.Core.List.{List, [], _∷_, map}
 use lib.Dec.{eqb}
 use borrow.Author.Tests.{ne-eqb}
 use Rattle.rfc6733.specs.Value.{oneOf}
@@ -15,8 +15,7 @@ use Rattle.attribute.specs.declared.AttributeCode.the-variants.{Unknown}
 use Rattle.attribute.specs.declared.Reading.the-variants.{Rfc}
 
 abbrev numbersOf : List Name → List ℕ
-numbersOf [] = []
-numbersOf (x ∷ xs) = x .number ∷ numbersOf xs
+numbersOf = map (λ x. x .number)
 
 off-names : (xs : List Name) (n : ℕ) → oneOf n (numbersOf xs) ≡ false → nameIn xs n ≡ Unknown
 off-names [] n h = refl

@@ -25,14 +25,4 @@ returns-4 c =
     rw (m .before .enum-told .given .1, other-name (m .match2 .rest .0 .1) (m .match2 .rest .1)) (c .new2 .ensures)
 
 pub read-spec : {M : Type 1} → statement M
-read-spec =
-    tie.close
-    (tie.spec
-    (λ c. search needs)
-    (λ c. search needs)
-    (λ c κs. search needs)
-    returns
-    (λ c κs. search needs)
-    returns-2
-    returns-3
-    returns-4)
+read-spec {M} = tie.close (search (tie.spec {M = M} (λ c. search needs) (λ c. search needs), returns, returns-2, returns-3, returns-4, needs))
