@@ -4,7 +4,7 @@
 -- Assumes nothing.
 use Prim.Native.Nat.{ℕ, zero, suc, _+_, _≤_, _<_}
 use mathlib.Core.Path.{_≡_, refl, sym, ap, _∙_}
-use mathlib.Core.Bool.{Bool, true, false, cond, not, _&&_, _||_, false≢true, and-eq-true-iff, and-true, or-false}
+use mathlib.Core.Bool.{Bool, true, false, cond, not, _&&_, false≢true, and-eq-true-iff, and-false, and-true, or-false}
 use mathlib.Core.List.{List, [], _∷_}
 use native.Mathlib.Nat.{add-zero}
 use native.Mathlib.Omega.{arith}
@@ -12,7 +12,7 @@ use lib.Dec.{leb, eqb, leb·zero}
 use lib.ListN.{length, getD, drop, length-drop, drop-of-length-le}
 use lib.Seq.{drop-drop, drop-cons, getD-drop}
 use borrow.Author.Tests.{not-true, eqb-true, eqb-false, eq-eqb, ne-eqb, le-leb, leb-true}
-use Rattle.octets.specs.Run.{tree, tiles, after}
+use Rattle.octets.specs.Run.{tiles, after}
 use Rattle.octets.proofs.Runs.{Sound, tree-none, tree-broken, tree-plain}
 use Rattle.rfc3629.specs.Ascii.{allAscii, asciiFront}
 use Rattle.rfc3629.specs.Utf8.{Range, within, matches, matchesAny, utf8-1, utf8-2, utf8-3, utf8-4, charSize, characters, wellFormed}
@@ -24,41 +24,19 @@ abbrev wide : ℕ → List (List Range) → Bool
 wide n [] = true
 wide n (rs ∷ rss) = eqb (length rs) n && wide n rss
 
-row-there : (rs : List Range) (s : List ℕ) → matches rs s ≡ true → length rs ≤ length s
-row-there [] s e = omega arith
-row-there (r ∷ rs) [] e = absurd (false≢true e)
-row-there (r ∷ rs) (b ∷ s) e = let l = row-there rs s (and-eq-true-iff (within r b) (matches rs s) .0 e .1) in omega arith
+row-short : (rs : List Range) (s : List ℕ) → length s < length rs → matches rs s ≡ false
+row-short [] s h = absurd (omega arith)
+row-short (r ∷ rs) [] h = refl
+row-short (r ∷ rs) (b ∷ s) h = rw (row-short rs s (omega arith), and-false)
 
-or-elim : {A : Type 0} (p q : Bool) → (p ≡ true → A) → (q ≡ true → A) → p || q ≡ true → A
-or-elim true q f g e = f refl
-or-elim false q f g e = g e
+pub short : (n : ℕ) (rss : List (List Range)) → wide n rss ≡ true → (s : List ℕ) → length s < n → matchesAny rss s ≡ false
+short n [] w s h = refl
+short n (rs ∷ rss) w s h =
+    let both = and-eq-true-iff (eqb (length rs) n) (wide n rss) .0 w in
+    rw (row-short rs s (omega (arith, eqb-true (length rs) n (both .0)))) (short n rss (both .1) s h)
 
 there : (n : ℕ) (rss : List (List Range)) → wide n rss ≡ true → (s : List ℕ) → matchesAny rss s ≡ true → n ≤ length s
-there n [] w s e = absurd (false≢true e)
-there n (rs ∷ rss) w s e =
-    let both = and-eq-true-iff (eqb (length rs) n) (wide n rss) .0 w in
-    or-elim (matches rs s) (matchesAny rss s) (λ m. omega (arith, row-there rs s m, eqb-true (length rs) n (both .0)))
-    (there n rss (both .1) s) e
-
-not-so : (b : Bool) → (b ≡ true → ⊥) → b ≡ false
-not-so true h = absurd (h refl)
-not-so false h = refl
-
-too-short : (n : ℕ) (rss : List (List Range)) → wide n rss ≡ true → (s : List ℕ) → length s < n → matchesAny rss s ≡ false
-too-short n rss w s l = not-so (matchesAny rss s) (λ e. omega (arith, there n rss w s e))
-
-module _ (s : List ℕ) where
-  pub short-1 : length s < 1 → matchesAny utf8-1 s ≡ false
-  short-1 = too-short 1 utf8-1 refl s
-
-  pub short-2 : length s < 2 → matchesAny utf8-2 s ≡ false
-  short-2 = too-short 2 utf8-2 refl s
-
-  pub short-3 : length s < 3 → matchesAny utf8-3 s ≡ false
-  short-3 = too-short 3 utf8-3 refl s
-
-  pub short-4 : length s < 4 → matchesAny utf8-4 s ≡ false
-  short-4 = too-short 4 utf8-4 refl s
+there n rss w s e = let enough : length s < n → ⊥ = λ h. false≢true (sym (short n rss w s h) ∙ e) in omega arith
 
 -- ---- a match looks at the bytes at the front
 
@@ -69,20 +47,13 @@ ahead (suc n) i s = getD s i 0 ∷ ahead n (suc i) s
 
 written-out : (n i : ℕ) (s : List ℕ) → i + n ≤ length s → drop i s ≡ ahead n i s
 written-out zero i s h = refl
-written-out (suc n) i s h = drop-cons s i 0 (omega arith) ∙ ap (λ (t : List ℕ). getD s i 0 ∷ t) (written-out n (suc i) s (omega arith))
+written-out (suc n) i s h = rw (drop-cons s i 0 (omega arith), written-out n (suc i) s (omega arith))
 
-module _ (s : List ℕ) where
-  pub first-1 : 1 ≤ length s → matchesAny utf8-1 s ≡ leb (getD s 0 0) 0x7F
-  first-1 h = ap (matchesAny utf8-1) (written-out 1 0 s h) ∙ simp (leb·zero, and-true, or-false)
+pub first : (n : ℕ) (rss : List (List Range)) (s : List ℕ) → n ≤ length s → matchesAny rss s ≡ matchesAny rss (ahead n 0 s)
+first n rss s h = ap (matchesAny rss) (written-out n 0 s (omega arith))
 
-  pub first-2 : 2 ≤ length s → matchesAny utf8-2 s ≡ matchesAny utf8-2 (getD s 0 0 ∷ getD s 1 0 ∷ [])
-  first-2 h = ap (matchesAny utf8-2) (written-out 2 0 s h)
-
-  pub first-3 : 3 ≤ length s → matchesAny utf8-3 s ≡ matchesAny utf8-3 (getD s 0 0 ∷ getD s 1 0 ∷ getD s 2 0 ∷ [])
-  first-3 h = ap (matchesAny utf8-3) (written-out 3 0 s h)
-
-  pub first-4 : 4 ≤ length s → matchesAny utf8-4 s ≡ matchesAny utf8-4 (getD s 0 0 ∷ getD s 1 0 ∷ getD s 2 0 ∷ getD s 3 0 ∷ [])
-  first-4 h = ap (matchesAny utf8-4) (written-out 4 0 s h)
+pub first-1 : (s : List ℕ) → 1 ≤ length s → matchesAny utf8-1 s ≡ leb (getD s 0 0) 0x7F
+first-1 s h = first 1 utf8-1 s h ∙ simp (leb·zero, and-true, or-false)
 
 -- ---- the size of a character
 
@@ -91,16 +62,11 @@ pub size-is : (s : List ℕ) {p q r t : Bool} → matchesAny utf8-1 s ≡ p → 
 unfolding charSize
 size-is s d e f g = cc
 
-pub ascii : (s : List ℕ) (at : ℕ) → at < length s → getD s at 0 ≤ 0x7F → 1 ≡ charSize (drop at s)
-ascii s at l h =
-    let first : getD (drop at s) 0 0 ≤ 0x7F = rw (getD-drop at s 0 0, add-zero) h in
-    size-is (drop at s) (first-1 (drop at s) (omega (arith, length-drop at s)) ∙ le-leb _ _ first) refl refl refl
-
 cond-le : (b : Bool) {x y n : ℕ} → (b ≡ true → x ≤ n) → y ≤ n → cond b x y ≤ n
 cond-le true f h = f refl
 cond-le false f h = h
 
-size-there : (s : List ℕ) → charSize s ≤ length s
+pub size-there : (s : List ℕ) → charSize s ≤ length s
 unfolding charSize
 size-there s =
     cond-le (matchesAny utf8-1 s) (there 1 utf8-1 refl s)
@@ -115,46 +81,49 @@ has-byte s e = let h = eqb-false (charSize s) 0 (not-true (eqb (charSize s) 0) e
 sound : Sound characters
 sound = record { some = has-byte; there = λ s e. size-there s; inside = has-byte }
 
--- nothing is left
-pub ended : (s : List ℕ) (at : ℕ) → length s ≤ at → true ≡ wellFormed (drop at s)
-unfolding wellFormed
-ended s at h = sym (ap (λ (t : List ℕ). tiles (tree characters t)) (drop-of-length-le s h) ∙ ap tiles (tree-none characters))
+-- whole characters were passed up to `at`: what is left is well-formed exactly where the whole text is
+pub record Passed (s : List ℕ) (at : ℕ) : Type 0 where
+  pub within : at ≤ length s
+  pub same : wellFormed (drop at s) ≡ wellFormed s
 
--- a byte is left, and no character is at the front
-pub stuck : (s : List ℕ) → 0 < length s → 0 ≡ charSize s → false ≡ wellFormed s
-unfolding wellFormed
-stuck s l e = sym (ap tiles (tree-broken characters sound s l (ap not (eq-eqb (charSize s) 0 (sym e)))))
+module _ {s : List ℕ} {at : ℕ} (p : Passed s at) where
+  -- nothing is left
+  pub ended : length s ≤ at → true ≡ wellFormed s
+  unfolding wellFormed
+  ended h = rw (drop-of-length-le s h, tree-none characters) at (p .same)
 
--- a character of n bytes is at the front, and is passed
-pub record Step (s : List ℕ) (at n : ℕ) : Type 0 where
-  pub fits : at + n ≤ length s
-  pub same : wellFormed (drop (at + n) s) ≡ wellFormed (drop at s)
+  -- a byte is left, and no character is at the front
+  pub stuck : at < length s → 0 ≡ charSize (drop at s) → false ≡ wellFormed s
+  unfolding wellFormed
+  stuck l e =
+      let none = ap not (eq-eqb _ 0 (sym e)) in
+      rw (tree-broken characters sound (drop at s) (omega (arith, length-drop at s)) none) at (p .same)
 
-pub step : (s : List ℕ) (at n : ℕ) → at ≤ length s → n ≡ charSize (drop at s) → 0 < n → Step s at n
-unfolding wellFormed after
-step s at n l e h =
-    let t = drop at s in
-    let whole : not (eqb (charSize t) 0) ≡ true = ap not (ne-eqb (charSize t) 0 (λ z. omega arith)) in
-    record {
-      fits = omega (arith, size-there t, length-drop at s);
-      same =
-          ap (λ (u : List ℕ). tiles (tree characters u)) (sym (drop-drop n at s) ∙ ap (λ (k : ℕ). drop k t) e)
-          ∙ sym (ap tiles (tree-plain characters sound t whole refl));
-    }
+  -- a character of n bytes is at the front
+  pub step : (n : ℕ) → n ≡ charSize (drop at s) → 0 < n → Passed s (at + n)
+  unfolding wellFormed after
+  step n e h =
+      let whole = ap not (ne-eqb (charSize (drop at s)) 0 (λ z. omega arith)) in
+      let more = ap tiles (tree-plain characters sound (drop at s) whole refl) in
+      record { within = omega (arith, size-there (drop at s), length-drop at s); same = rw (← drop-drop n at s, e) (sym more ∙ p .same) }
 
--- n bytes of ASCII are n characters, and are passed
-passed : (s : List ℕ) (at n : ℕ) → at + n ≤ length s → allAscii n (drop at s) ≡ true → Step s at n
-passed s at zero h e = record { fits = h; same = ap (λ (k : ℕ). wellFormed (drop k s)) (add-zero at) }
-passed s at (suc n) h e =
+  -- a byte of ASCII is
+  pub ascii : at < length s → getD s at 0 ≤ 0x7F → Passed s (at + 1)
+  ascii l h =
+      let first = rw (← add-zero at, ← getD-drop at s 0 0) at h in
+      step 1 (size-is (drop at s) (first-1 (drop at s) (omega (arith, length-drop at s)) ∙ le-leb _ _ first) refl refl refl) (omega arith)
+
+-- n bytes of ASCII are n characters
+all-ascii : {s : List ℕ} {at : ℕ} (n : ℕ) → Passed s at → at + n ≤ length s → allAscii n (drop at s) ≡ true → Passed s (at + n)
+all-ascii {s} {at} zero p h e = rw add-zero p
+all-ascii {s} {at} (suc n) p h e =
     let both = and-eq-true-iff (allAscii n (drop at s)) (leb (getD (drop at s) n 0) 0x7F) .0 e in
-    let before = passed s at n (omega arith) (both .0) in
-    let low : getD s (at + n) 0 ≤ 0x7F = rw (← getD-drop at s n 0) (leb-true _ _ (both .1)) in
-    let last = step s (at + n) 1 (omega arith) (ascii s (at + n) (omega arith) low) (omega arith) in
+    let low = rw getD-drop at (leb-true (getD (drop at s) n 0) 0x7F (both .1)) in
     let next : at + suc n ≡ at + n + 1 = omega arith in
-    record { fits = h; same = ap (λ (k : ℕ). wellFormed (drop k s)) next ∙ last .same ∙ before .same }
+    rw next (ascii (all-ascii n p (omega arith) (both .0)) (omega arith) low)
 
-pub ascii-passed : (s : List ℕ) (at n : ℕ) → at ≤ length s → asciiFront n (drop at s) ≡ true → Step s at n
+pub ascii-passed : {s : List ℕ} {at : ℕ} (n : ℕ) → Passed s at → asciiFront n (drop at s) ≡ true → Passed s (at + n)
 unfolding asciiFront
-ascii-passed s at n h e =
+ascii-passed {s} {at} n p e =
     let both = and-eq-true-iff (leb n (length (drop at s))) (allAscii n (drop at s)) .0 e in
-    passed s at n (omega (arith, leb-true n (length (drop at s)) (both .0), length-drop at s)) (both .1)
+    all-ascii n p (omega (arith, p .within, leb-true n (length (drop at s)) (both .0), length-drop at s)) (both .1)

@@ -5,9 +5,6 @@ use mathlib.Core.Bool.{Bool, true, false, _&&_, _||_, and-assoc, or-assoc, and-t
 
 -- ---- a row: one byte after the other
 
-pub row-2 : {a b p q : Bool} → a ≡ p → b ≡ q → a && b ≡ p && (q && true)
-row-2 e f = simp and-true (cc)
-
 pub row-3 : {a b c p q r : Bool} → a ≡ p → b ≡ q → c ≡ r → a && b && c ≡ p && (q && (r && true))
 row-3 e f g = simp (and-assoc, and-true) (cc)
 
@@ -15,9 +12,6 @@ pub row-4 : {a b c d p q r s : Bool} → a ≡ p → b ≡ q → c ≡ r → d �
 row-4 e f g h = simp (and-assoc, and-true) (cc)
 
 -- ---- alternatives
-
-pub one-row : {a p : Bool} → a ≡ p → a ≡ p || false
-one-row e = simp or-false (cc)
 
 pub three-rows : {a b c p q r : Bool} → a ≡ p → b ≡ q → c ≡ r → a || b || c ≡ p || (q || (r || false))
 three-rows e f g = simp (or-assoc, or-false) (cc)

@@ -9,7 +9,7 @@ use native.Mathlib.Omega.{arith}
 use denote.Ref.{now}
 use borrow.Author.Needs.{needs}
 use Rattle.rfc3629.specs.Utf8.{utf8-2, utf8-3, utf8-4, matchesAny, charSize}
-use Rattle.rfc3629.proofs.Characters.{short-1, short-2, short-3, short-4, first-1, first-2, first-3, first-4, size-is}
+use Rattle.rfc3629.proofs.Characters.{short, first, first-1, size-is, size-there}
 use Rattle.rfc3629.proofs.char_size.Statement.{statement}
 use Rattle.rfc3629.proofs.char_size.Tie as tie
 
@@ -24,7 +24,7 @@ module _ (c : tie.Else2) where
   from-2 = size-is text-2 (first-1 text-2 (omega arith) ∙ sym (c .before .is-utf8-1 .ensures) ∙ c .if2 .left)
 
 test-2 : (c : tie.After-is-utf8-2) → matchesAny utf8-2 (text-2 (c .before .before .before)) ≡ c .is-utf8-2 .result
-test-2 c = first-2 (text-2 (c .before .before .before)) (omega arith) ∙ sym (c .is-utf8-2 .ensures)
+test-2 c = first 2 utf8-2 (text-2 (c .before .before .before)) (omega arith) ∙ sym (c .is-utf8-2 .ensures)
 
 module _ (c : tie.Else4) where
   abbrev text-3 : List ℕ
@@ -34,7 +34,7 @@ module _ (c : tie.Else4) where
   from-3 = from-2 (c .before .before .before .before) (test-2 (c .before) ∙ c .if4 .left)
 
 test-3 : (c : tie.After-is-utf8-3) → matchesAny utf8-3 (text-3 (c .before .before .before)) ≡ c .is-utf8-3 .result
-test-3 c = first-3 (text-3 (c .before .before .before)) (omega arith) ∙ sym (c .is-utf8-3 .ensures)
+test-3 c = first 3 utf8-3 (text-3 (c .before .before .before)) (omega arith) ∙ sym (c .is-utf8-3 .ensures)
 
 module _ (c : tie.Else6) where
   abbrev text-4 : List ℕ
@@ -44,14 +44,12 @@ module _ (c : tie.Else6) where
   from-4 = from-3 (c .before .before .before .before) (test-3 (c .before) ∙ c .if6 .left)
 
 test-4 : (c : tie.After-is-utf8-4) → matchesAny utf8-4 (text-4 (c .before .before .before)) ≡ c .is-utf8-4 .result
-test-4 c = first-4 (text-4 (c .before .before .before)) (omega arith) ∙ sym (c .is-utf8-4 .ensures)
+test-4 c = first 4 utf8-4 (text-4 (c .before .before .before)) (omega arith) ∙ sym (c .is-utf8-4 .ensures)
 
 -- ---- the needs
 
 returns : tie.Need-returns
-returns c =
-    let s = now (c .before .before .args .s) in
-    size-is s (short-1 s (omega arith)) (short-2 s (omega arith)) (short-3 s (omega arith)) (short-4 s (omega arith))
+returns c = omega (arith, size-there (now (c .before .before .args .s)))
 
 returns-2 : tie.Need-returns-2
 returns-2 c =
@@ -60,19 +58,20 @@ returns-2 c =
 
 returns-3 : tie.Need-returns-3
 returns-3 c =
-    let s = text-2 (c .before) in from-2 (c .before) (short-2 s (omega arith)) (short-3 s (omega arith)) (short-4 s (omega arith))
+    let s = text-2 (c .before) in
+    from-2 (c .before) (short 2 utf8-2 refl s (omega arith)) (short 3 utf8-3 refl s (omega arith)) (short 4 utf8-4 refl s (omega arith))
 
 returns-4 : tie.Need-returns-4
 returns-4 c = from-2 (c .before .before .before .before) (test-2 (c .before) ∙ c .if4 .taken) refl refl
 
 returns-5 : tie.Need-returns-5
-returns-5 c = let s = text-3 (c .before) in from-3 (c .before) (short-3 s (omega arith)) (short-4 s (omega arith))
+returns-5 c = let s = text-3 (c .before) in from-3 (c .before) (short 3 utf8-3 refl s (omega arith)) (short 4 utf8-4 refl s (omega arith))
 
 returns-6 : tie.Need-returns-6
 returns-6 c = from-3 (c .before .before .before .before) (test-3 (c .before) ∙ c .if6 .taken) refl
 
 returns-7 : tie.Need-returns-7
-returns-7 c = from-4 (c .before) (short-4 (text-4 (c .before)) (omega arith))
+returns-7 c = from-4 (c .before) (short 4 utf8-4 refl (text-4 (c .before)) (omega arith))
 
 returns-8 : tie.Need-returns-8
 returns-8 c = from-4 (c .before .before .before .before) (test-4 (c .before) ∙ c .if8 .taken)
