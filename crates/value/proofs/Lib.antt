@@ -1,5 +1,3 @@
-pub mod Addresses
 pub mod KnownKinds
-pub mod NewValue
 pub mod ReadAs
 pub mod Shown

@@ -2,9 +2,10 @@
 -- nothing more is asked of it; an Address is asked for its family besides.
 -- Assumes nothing.
 use Prim.Native.Nat.{ℕ, _<_, _≤_}
-use mathlib.Core.Path.{_≡_, refl, sym, ap, _∙_}
+use mathlib.Core.Path.{_≡_, refl, ap, _∙_}
 use mathlib.Core.Bool.{Bool, true, false, cond}
 use mathlib.Core.List.{List}
+use types.Run.{OneOf}
 use lib.ListN.{length}
 use lib.Dec.{ltb, eqb}
 use borrow.Author.Tests.{lt-ltb, le-ltb, eqb-false}
@@ -14,12 +15,14 @@ use Rattle.flags.specs.Flags.{dataValue, dataLength, flag}
 use Rattle.rfc6733.specs.Value as rfc
 use Rattle.rfc6733.specs.Value.{value, fixed}
 use Rattle.record.specs.Kinds.{address, unhandled}
+use Rattle.attribute.specs.ByTable.{known}
 use Rattle.value.specs.declared.Value.{Value}
 use Rattle.value.specs.declared.Value.the-variants.{Unhandled, Address}
 use Rattle.value.specs.declared.IpAddr.{IpAddr}
 use Rattle.value.specs.declared.IpAddr.the-variants.{V4, V6}
 use Rattle.value.specs.declared.Read.{Read}
-use Rattle.value.specs.Values.{kindOf, addressNumber, numberOf, readAs, addressOf, Shows}
+use Rattle.value.specs.Values.{kindOf, addressNumber, numberOf, readAs, kinds32, kinds64, addressOf, Shows, newValue}
+use Rattle.value.proofs.KnownKinds.{of-one}
 
 -- r was made of a value and its error flags
 abbrev pub Made : Value → ℕ → Read → Type 0
@@ -55,12 +58,10 @@ module _ (s : List ℕ) (r : Read) where
   -- another kind is no Address
   pub no-address : (v : rfc.Value) → readAs r ≡ v → eqb (v .kind) address ≡ false → Shows v s r
   unfolding readAs
-  no-address v e other =
-      let kind : v .kind ≡ kindOf (r .value) = sym (ap (λ (x : rfc.Value). x .kind) e) in
-      record { value = e; address = λ a is. absurd (eqb-false _ _ other (kind ∙ ap kindOf is)) }
+  no-address v e other = record { value = e; address = λ a is. absurd (eqb-false (v .kind) address other (cc)) }
 
-  pub a-number : (w k : ℕ) → readAs r ≡ fixed w k s → eqb k address ≡ false → Shows (fixed w k s) s r
-  a-number w k e other = no-address (fixed w k s) e (fixed-kind w k s other)
+  a-number : (w k : ℕ) → eqb k address ≡ false → readAs r ≡ fixed w k s → Shows (fixed w k s) s r
+  a-number w k other e = no-address (fixed w k s) e (fixed-kind w k s other)
 
   pub is-unhandled : (e : ℕ) → Made Unhandled e r → Shows (value unhandled e 0) s r
   is-unhandled e made = no-address (value unhandled e 0) (read-as r Unhandled e made) refl
@@ -80,3 +81,17 @@ module _ (s : List ℕ) (r : Read) where
 
   pub ipv6 : 16 ≤ length s → Made (Address V6) 0 r → Shows (value address 0 0) s r
   ipv6 room made = an-address V6 made (rw (le-ltb _ _ room))
+
+  -- one of the kinds of numbers, in the words of `Value::new`
+  module _ (asAddress : List ℕ → rfc.Value) where
+    abbrev Number : ℕ → ℕ → Type 0
+    Number w k = readAs r ≡ fixed w k s → Shows (newValue asAddress (known k) s) s r
+
+    pub number-32 : (k : ℕ) → OneOf kinds32 k → Number 4 k
+    unfolding newValue rfc.dataAs
+    number-32 =
+        of-one (Number 4) kinds32 (a-number 4 _ refl, (a-number 4 _ refl, (a-number 4 _ refl, (a-number 4 _ refl, (a-number 4 _ refl, tt)))))
+
+    pub number-64 : (k : ℕ) → OneOf kinds64 k → Number 8 k
+    unfolding newValue rfc.dataAs
+    number-64 = of-one (Number 8) kinds64 (a-number 8 _ refl, (a-number 8 _ refl, (a-number 8 _ refl, tt)))

@@ -7,9 +7,6 @@ use Rattle.value.proofs.Shown.{too-few, enough}
 use Rattle.value.proofs.Read.fixed_64.Statement.{statement}
 use Rattle.value.proofs.Read.fixed_64.Tie as tie
 
-returns : tie.Need-returns
-returns c = too-few _ _ _ _ (omega arith) (c .unhandled .ensures)
-
 returns-2 : tie.Need-returns-2
 returns-2 c = enough 8 _ _ _ _ _ (omega arith) (c .before .of-64 .ensures) (c .before .before .be-u64 .ensures) (c .raised .ensures)
 
@@ -19,7 +16,7 @@ fixed-64-spec =
     (tie.spec
     (λ c. search needs)
     (λ c κs. search needs)
-    returns
+    (λ c. too-few _ _ _ _ (omega arith) (c .unhandled .ensures))
     (λ c. search needs)
     (λ c. search needs)
     (λ c. search needs)

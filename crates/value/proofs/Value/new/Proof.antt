@@ -2,84 +2,64 @@
 -- Unhandled.
 -- Assumes nothing.
 use mathlib.Core.Path.{refl}
-use mathlib.Core.Logic.{inl, inr}
 use borrow.Author.Needs.{needs}
+use Rattle.rfc6733.specs.Value.{text, dataAs}
 use Rattle.rfc6733.proofs.Listed.{one-of}
 use Rattle.attribute.specs.ByTable.{addressBy}
-use Rattle.value.specs.declared.Value.the-variants.{UTF8String, DiameterIdentity, DiameterURI}
-use Rattle.value.specs.Values.{kinds32, kinds64}
+use Rattle.value.specs.declared.Value.the-variants.{OctetString, Grouped, UTF8String, DiameterIdentity, DiameterURI}
+use Rattle.value.specs.Values.{kinds32, kinds64, newValue}
 use Rattle.value.proofs.KnownKinds.{none-known}
-use Rattle.value.proofs.NewValue.{octet-string, not-handled, number-32, number-64, text-kind, group-kind, address-kind}
+use Rattle.value.proofs.Shown.{read-as, no-address, is-unhandled, by-test, number-32, number-64}
 use Rattle.value.proofs.Value.new.Statement.{statement}
 use Rattle.value.proofs.Value.new.Tie as tie
 
-fixed-32-requires : tie.Need-fixed-32-requires
-fixed-32-requires c κs = one-of kinds32 _ (c .match .keys2)
-
-fixed-64-requires : tie.Need-fixed-64-requires
-fixed-64-requires c κs = one-of kinds64 _ (c .match .keys3)
-
 returns : tie.Need-returns
-returns c = octet-string _ _ _ _ (c .before .match .keys1) (c .good2 .ensures)
-
-returns-2 : tie.Need-returns-2
-returns-2 c = number-32 _ _ _ _ (c .before .match .keys2) (c .fixed-32 .ensures)
-
-returns-3 : tie.Need-returns-3
-returns-3 c = number-64 _ _ _ _ (c .before .match .keys3) (c .fixed-64 .ensures)
+unfolding newValue dataAs
+returns c = rw (c .before .match .keys1) (no-address _ _ _ (read-as _ OctetString 0 (c .good2 .ensures)) refl)
 
 returns-4 : tie.Need-returns-4
-returns-4 c = group-kind _ _ _ _ _ (c .before .before .match .keys4) (c .tested .ensures) (c .before .tiles .ensures)
+unfolding newValue
+returns-4 c =
+    rw (c .before .before .match .keys4, ← c .before .tiles .ensures)
+    (by-test _ _ (c .before .tiles .result) Grouped refl refl (c .tested .ensures))
 
 returns-5 : tie.Need-returns-5
+unfolding newValue dataAs text
 returns-5 c =
-    text-kind _ _ _ _ _ UTF8String (c .before .before .match .keys5) (c .tested2 .ensures) (inl refl) refl
-    (c .before .is-utf8 .ensures)
+    rw (c .before .before .match .keys5, ← c .before .is-utf8 .ensures)
+    (by-test _ _ (c .before .is-utf8 .result) UTF8String refl refl (c .tested2 .ensures))
 
 returns-6 : tie.Need-returns-6
+unfolding newValue dataAs text
 returns-6 c =
-    text-kind _ _ _ _ _ DiameterIdentity (c .before .before .match .keys6) (c .tested3 .ensures) (inr (inl refl)) refl
-    (c .before .is-utf82 .ensures)
+    rw (c .before .before .match .keys6, ← c .before .is-utf82 .ensures)
+    (by-test _ _ (c .before .is-utf82 .result) DiameterIdentity refl refl (c .tested3 .ensures))
 
 returns-7 : tie.Need-returns-7
+unfolding newValue dataAs text
 returns-7 c =
-    text-kind _ _ _ _ _ DiameterURI (c .before .before .match .keys7) (c .tested4 .ensures) (inr (inr refl)) refl
-    (c .before .is-utf83 .ensures)
+    rw (c .before .before .match .keys7, ← c .before .is-utf83 .ensures)
+    (by-test _ _ (c .before .is-utf83 .result) DiameterURI refl refl (c .tested4 .ensures))
 
 returns-8 : tie.Need-returns-8
-unfolding addressBy
-returns-8 c =
-    address-kind _ _ _ _ (c .before .before .match .keys8)
-    (rw (c .before .if1 .taken) (c .family-address .ensures))
+unfolding newValue dataAs addressBy
+returns-8 c = rw (c .before .before .match .keys8, c .before .if1 .taken) (c .family-address .ensures)
 
 returns-9 : tie.Need-returns-9
-unfolding addressBy
-returns-9 c =
-    address-kind _ _ _ _ (c .before .before .match .keys8)
-    (rw (c .before .if1 .left) (c .bare-address .ensures))
+unfolding newValue dataAs addressBy
+returns-9 c = rw (c .before .before .match .keys8, c .before .if1 .left) (c .bare-address .ensures)
 
 returns-10 : tie.Need-returns-10
-returns-10 c =
-    let rest = c .before .match .rest in
-    not-handled _ _ (c .before .before .before .args .kind) _
-    (none-known
-    (rest .0 .0 .0 .0 .0 .0 .0 .1)
-    (rest .0 .0 .0 .0 .0 .0 .1)
-    (rest .0 .0 .0 .0 .0 .1)
-    (rest .0 .0 .0 .0 .1)
-    (rest .0 .0 .0 .1)
-    (rest .0 .0 .1)
-    (rest .0 .1)
-    (rest .1))
-    (c .unhandled .ensures)
+unfolding newValue dataAs
+returns-10 c = rw (none-known (c .before .match .rest)) (is-unhandled _ _ 0 (c .unhandled .ensures))
 
 pub new-spec : {M : Type 1} → statement M
 new-spec =
     tie.close
     (tie.spec
     (λ c κs. search needs)
-    fixed-32-requires
-    fixed-64-requires
+    (λ c κs. one-of kinds32 _ (c .match .keys2))
+    (λ c κs. one-of kinds64 _ (c .match .keys3))
     (λ c κs. search needs)
     (λ c κs. search needs)
     (λ c κs. search needs)
@@ -92,8 +72,8 @@ new-spec =
     (λ c κs. search needs)
     (λ c κs. search needs)
     returns
-    returns-2
-    returns-3
+    (λ c. number-32 _ _ _ _ (c .before .match .keys2) (c .fixed-32 .ensures))
+    (λ c. number-64 _ _ _ _ (c .before .match .keys3) (c .fixed-64 .ensures))
     returns-4
     returns-5
     returns-6
