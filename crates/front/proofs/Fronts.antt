@@ -2,7 +2,7 @@
 -- is complete, and then what is left after it is the run from its size on.
 -- Assumes nothing.
 use Prim.Native.Nat.{ℕ, _+_, _-_, _≤_, _<_}
-use mathlib.Core.Path.{_≡_, refl, sym, ap, subst, _∙_}
+use mathlib.Core.Path.{_≡_, refl, sym, ap, _∙_}
 use mathlib.Core.Bool.{Bool, true, false, cond}
 use mathlib.Core.List.{List}
 use native.Mathlib.Omega.{arith}
@@ -34,10 +34,10 @@ was s = by (complete s) refl
     by false t = t
 
 pub was-whole : (s : List ℕ) (a : AVP) → Whole a ≡ firstOf s → (complete s ≡ true) × (a ≡ avpOf s)
-was-whole s a e = subst (λ (r : First). Was r s) (sym e) (was s)
+was-whole s a e = rw (← e) at (was s)
 
 pub was-broken : (s : List ℕ) → Broken ≡ firstOf s → complete s ≡ false
-was-broken s e = subst (λ (r : First). Was r s) (sym e) (was s)
+was-broken s e = rw (← e) at (was s)
 
 -- an AVP that `parse` accepts is complete too
 pub was-accepted : (s : List ℕ) (a : AVP) → answerOf (front.Accepted a) ≡ parsedOf s → (complete s ≡ true) × (a ≡ avpOf s)
@@ -55,14 +55,7 @@ pub record Here (s : List ℕ) (a : AVP) : Type 0 where
 
 pub here : (s : List ℕ) (a : AVP) → a ≡ avpOf s → Here s a
 unfolding avpOf
-here s a e =
-    record {
-      code-is = ap (λ (x : AVP). x .code) e;
-      flags-is = ap (λ (x : AVP). x .flags) e;
-      length-is = ap (λ (x : AVP). x .length) e;
-      vendor-is = ap (λ (x : AVP). x .«vendor_id») e;
-      size-is = ap (λ (x : AVP). x .size) e;
-    }
+here s a e = rw e (record { code-is = refl; flags-is = refl; length-is = refl; vendor-is = refl; size-is = refl })
 
 -- ---- a turn of a loop over `&s[at..]`, once `first_avp` answered `Whole(a)` there
 
@@ -107,11 +100,11 @@ turn s at a h e =
 module _ (nested : List ℕ → Bool) (s : List ℕ) (at : ℕ) (a : AVP) (t : Turn s at a) where
   pub next-is : drop (at + a .size) s ≡ after (avpsBy nested) (drop at s)
   unfolding after
-  next-is = t .next ∙ ap (λ (k : ℕ). drop k (drop at s)) (t .fields .size-is)
+  next-is = cc (t .next, t .fields .size-is)
 
   pub own-is : take (a .size) (drop at s) ≡ item (avpsBy nested) (drop at s)
   unfolding item
-  own-is = ap (λ (k : ℕ). take k (drop at s)) (t .fields .size-is)
+  own-is = rw (t .fields .size-is)
 
 pub stuck : (s : List ℕ) (at : ℕ) → at < length s → Broken ≡ firstOf (take (length s - at) (drop at s)) → complete (drop at s) ≡ false
 stuck s at h e = was-broken (drop at s) (e ∙ ap firstOf (rest s at (omega arith)))

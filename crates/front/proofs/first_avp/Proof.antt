@@ -26,30 +26,12 @@ padding-found : (c : tie.After-padding)
     Padded (input read) (read .be-u24 .result) (c .padding .result)
 padding-found c = padded _ _ _ _ (sizes-read (c .before .before)) (c .padding .ensures)
 
--- ---- past the three tests
-
+-- past the three tests
 complete-there : (c : tie.Else3) → Whole (input (c .before .before .before .before))
 complete-there c =
     let st = sizes-read (c .before .before .before) in
     let p = padding-found (c .before) in
     record { eight = omega arith; long = omega arith; room = omega arith }
-
--- ---- the needs
-
-returns : tie.Need-returns
-returns c = broken _ (not-complete _ (λ w. omega arith))
-
-returns-2 : tie.Need-returns-2
-returns-2 c = let st = sizes-read (c .before) in broken _ (not-complete _ (λ w. omega arith))
-
-add-size : tie.Need-add-size
-add-size c = omega (arith, padding-found c)
-
-returns-3 : tie.Need-returns-3
-returns-3 c = let p = padding-found (c .before) in broken _ (not-complete _ (λ w. omega arith))
-
-vendor-id-requires : tie.Need-vendor-id-requires
-vendor-id-requires c κs = header-there _ (complete-there (c .before .before .before .before .before))
 
 returns-4 : tie.Need-returns-4
 returns-4 c =
@@ -62,7 +44,7 @@ pub first-avp-spec : {M : Type 1} → statement M
 first-avp-spec =
     tie.close
     (tie.spec
-    returns
+    (λ c. broken _ (not-complete _ (λ w. omega arith)))
     (λ c. search needs)
     (λ c. search needs)
     (λ c. search needs)
@@ -70,14 +52,14 @@ first-avp-spec =
     (λ c κs. search needs)
     (λ c. search needs)
     (λ c κs. search needs)
-    returns-2
+    (λ c. broken _ (not-complete _ (λ w. omega (arith, sizes-read (c .before)))))
     (λ c κs. search needs)
-    add-size
-    returns-3
+    (λ c. omega (arith, padding-found c))
+    (λ c. broken _ (not-complete _ (λ w. omega (arith, padding-found (c .before)))))
     (λ c. search needs)
     (λ c. search needs)
     (λ c. search needs)
     (λ c. search needs)
     (λ c κs. search needs)
-    vendor-id-requires
+    (λ c κs. header-there _ (complete-there (c .before .before .before .before .before)))
     returns-4)

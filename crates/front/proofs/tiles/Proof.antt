@@ -34,13 +34,7 @@ returns c =
     let l = c .before .before .before .before .before in
     let s = now (l .before .before .args .s) in
     let none = stuck s (l .loop .at) (omega arith) (sym (c .enum-told .given .1) ∙ c .before .before .first-avp .ensures) in
-    sym (tiling-broken (drop (l .loop .at) s) (omega (arith, length-drop (l .loop .at) s)) none) ∙ l .loop .inv .1
-
-add-at : tie.Need-add-at Inv-loop μ-loop
-add-at c = omega (arith, turned c)
-
-loop-less : tie.Need-loop-less Inv-loop μ-loop
-loop-less c = omega (arith, turned c)
+    rw (tiling-broken (drop (l .loop .at) s) (omega (arith, length-drop (l .loop .at) s)) none) at (l .loop .inv .1)
 
 loop-again : tie.Need-loop-again Inv-loop μ-loop
 loop-again c =
@@ -49,7 +43,7 @@ loop-again c =
     (t .fits, ap tiling (next-is (λ a. false) _ _ _ t) ∙ sym (tiling-more _ (t .complete-here)) ∙ l .loop .inv .1)
 
 returns-2 : tie.Need-returns-2 Inv-loop μ-loop
-returns-2 c = sym (ap tiling (drop-of-length-le _ (c .loop-test .left)) ∙ tiling-none) ∙ c .before .loop .inv .1
+returns-2 c = rw (drop-of-length-le _ (c .loop-test .left), tiling-none) at (c .before .loop .inv .1)
 
 pub tiles-spec : {M : Type 1} → statement M
 tiles-spec =
@@ -65,7 +59,7 @@ tiles-spec =
     (λ c. search needs)
     (λ c. search needs)
     returns
-    add-at
-    loop-less
+    (λ c. omega (arith, turned c))
+    (λ c. omega (arith, turned c))
     loop-again
     returns-2)

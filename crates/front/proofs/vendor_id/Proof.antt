@@ -14,21 +14,6 @@ use Rattle.front.proofs.vendor_id.Tie as tie
 vendor-there : (c : tie.Then1) → Vendored (now (c .before .before .before .before .args .s))
 vendor-there c = with-vendor _ (sym (c .before .vendor-specific-flag .ensures) ∙ c .if1 .taken)
 
-shared-slice-read-vendor-specific-flag : tie.Need-shared-slice-read-vendor-specific-flag
-shared-slice-read-vendor-specific-flag c = omega (arith, head (flags (now (c .before .before .args .s))))
-
-shared-slice-read-be-u32 : tie.Need-shared-slice-read-be-u32
-shared-slice-read-be-u32 c = omega (arith, vendor-there (c .before))
-
-shared-slice-read-be-u32-2 : tie.Need-shared-slice-read-be-u32-2
-shared-slice-read-be-u32-2 c = omega (arith, vendor-there (c .before .before))
-
-shared-slice-read-be-u32-3 : tie.Need-shared-slice-read-be-u32-3
-shared-slice-read-be-u32-3 c = omega (arith, vendor-there (c .before .before .before))
-
-shared-slice-read-be-u32-4 : tie.Need-shared-slice-read-be-u32-4
-shared-slice-read-be-u32-4 c = omega (arith, vendor-there (c .before .before .before .before))
-
 returns : tie.Need-returns
 returns c = read-at 4 _ 8 _ (c .be-u32 .ensures) ∙ sym (vendor-there (c .before .before .before .before .before) .vendor-is)
 
@@ -39,12 +24,12 @@ pub vendor-id-spec : {M : Type 1} → statement M
 vendor-id-spec =
     tie.close
     (tie.spec
-    shared-slice-read-vendor-specific-flag
+    (λ c. omega (arith, head (flags (now (c .before .before .args .s)))))
     (λ c κs. search needs)
-    shared-slice-read-be-u32
-    shared-slice-read-be-u32-2
-    shared-slice-read-be-u32-3
-    shared-slice-read-be-u32-4
+    (λ c. omega (arith, vendor-there (c .before)))
+    (λ c. omega (arith, vendor-there (c .before .before)))
+    (λ c. omega (arith, vendor-there (c .before .before .before)))
+    (λ c. omega (arith, vendor-there (c .before .before .before .before)))
     (λ c κs. search needs)
     returns
     returns-2)
