@@ -2,5 +2,4 @@ pub mod Decimals
 pub mod Dumps
 pub mod Lines
 pub mod Puts
-pub mod Records
 pub mod Sizes

@@ -3,15 +3,13 @@
 use Prim.Native.Nat.{ℕ, suc, _+_, _-_, _≤_, _<_}
 use mathlib.Core.Path.{_≡_, refl, sym, ap, _∙_}
 use mathlib.Core.List.{List, [], _∷_, _++_, append-assoc, append-nil}
+use native.Mathlib.Numerals.{add-one}
 use native.Mathlib.Omega.{arith}
-use lib.ListN.{length, take, drop, set, length-append}
+use lib.ListN.{length, take, drop, set, length-append, length-take, length-drop}
 use lib.Seq.{drop-cons, set-at}
 use borrow.Rule.Slice.PartMut.{putMid}
 use Rattle.octets.specs.Octets.{over, Put}
 use Rattle.octets.proofs.Lists.{rest, lent, copied, over-none, over-length, over-more}
-
-nothing-put : (out : List ℕ) → Put 0 [] out out
-nothing-put out = record { size-is = refl; out-is = sym (over-none out) }
 
 pub copy-put : {n : ℕ} {back : List ℕ} (text out : List ℕ) → n ≡ length text → back ≡ take (length text) text ++ drop (length text) out
     → Put n text out back
@@ -21,13 +19,11 @@ copy-put text out size copy = record { size-is = size; out-is = copy ∙ copied 
 pub put-byte : {n : ℕ} {a before mid : List ℕ} (v : ℕ) → Put n a before mid → n < length before → Put (n + 1) (a ++ (v ∷ [])) before (set mid n v)
 unfolding over
 put-byte {n} {a} {before} {mid} v p h =
-    let l = length-append a (v ∷ []) in
     let size : n ≡ length a = p .size-is in
-    let next : length (a ++ (v ∷ [])) ≡ suc (length a) = omega arith in
     record {
-      size-is = omega arith;
+      size-is = simp length-append (omega arith);
       out-is =
-          rw (p .out-is, drop-cons before (length a) 0 (omega arith), next)
+          rw (p .out-is, drop-cons before (length a) 0 (omega arith), length-append, add-one)
           (set-at a _ (drop (suc (length a)) before) v n (sym size) ∙ sym (append-assoc a (v ∷ []) (drop (suc (length a)) before)));
     }
 
@@ -36,13 +32,12 @@ put-more : {n k : ℕ} {a b before mid back : List ℕ} → Put n a before mid �
     → n ≤ length mid → Put (n + k) (a ++ b) before (putMid n (length mid - n) mid back)
 put-more {n} {k} {a} {b} {before} {mid} {back} p q h =
     record {
-      size-is = omega (arith, length-append a b, p .size-is, q .size-is);
-      out-is =
-          lent n mid back
-          ∙ ap (λ (x : List ℕ). take n mid ++ x) (q .out-is ∙ ap (over b) (rest mid n h))
-          ∙ ap (λ (x : List ℕ). take n x ++ over b (drop n x)) (p .out-is)
-          ∙ over-more a b before n (sym (p .size-is));
+      size-is = simp length-append (omega (arith, p .size-is, q .size-is));
+      out-is = rw (lent n mid back, q .out-is, rest mid n h, p .out-is) (over-more a b before n (sym (p .size-is)));
     }
+
+pub same-length : {n : ℕ} {text before out : List ℕ} → Put n text before out → length text ≤ length before → length out ≡ length before
+same-length {n} {text} {before} p h = ap length (p .out-is) ∙ over-length text before h
 
 -- ---- a text whose first pieces were put, and what is left of it
 
@@ -52,7 +47,7 @@ pub record Passed (text left before out : List ℕ) (at : ℕ) : Type 0 where
   pub text-is : text ≡ done ++ left
 
 pub none-passed : (text out : List ℕ) → Passed text text out out 0
-none-passed text out = record { done = []; put = nothing-put out; text-is = refl }
+none-passed text out = record { done = []; put = record { size-is = refl; out-is = sym (over-none out) }; text-is = refl }
 
 -- the first of two pieces
 pub first-passed : {n : ℕ} {a before mid : List ℕ} (b : List ℕ) → Put n a before mid → Passed (a ++ b) (b ++ []) before mid n
@@ -66,6 +61,10 @@ pub record Ready (piece before out : List ℕ) (at : ℕ) : Type 0 where
   pub room : at + length piece ≤ length out
   pub same-length : length out ≡ length before
 
+-- as the function that puts it asks for it
+pub room-left : {piece before out : List ℕ} {at : ℕ} → Ready piece before out at → length piece ≤ length (take (length out - at) (drop at out))
+room-left r = simp (length-take, length-drop) (omega arith)
+
 module _ {text before out : List ℕ} {at : ℕ} (piece left : List ℕ) (p : Passed text (piece ++ left) before out at)
     (fits : length text ≤ length before) where
   pub ready : Ready piece before out at
@@ -74,7 +73,7 @@ module _ {text before out : List ℕ} {at : ℕ} (piece left : List ℕ) (p : Pa
       let all = ap length (p .text-is) in
       let both = length-append (p .done) (piece ++ left) in
       let more = length-append piece left in
-      let same : length out ≡ length before = ap length (p .put .out-is) ∙ over-length (p .done) before (omega arith) in
+      let same = same-length (p .put) (omega arith) in
       record { room = omega arith; same-length = same }
 
   pub passed : {k : ℕ} {back : List ℕ} → Put k piece (take (length out - at) (drop at out)) back

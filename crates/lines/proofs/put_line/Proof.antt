@@ -2,16 +2,15 @@
 -- is the line of the numbers that are left. The measure is how many stand before the last.
 -- Assumes nothing.
 use Prim.Native.Nat.{ℕ, _+_, _-_, _≤_}
-use mathlib.Core.Path.{_≡_, _∙_}
+use mathlib.Core.Path.{_≡_}
 use mathlib.Core.List.{List, [], _∷_, _++_}
 use native.Mathlib.Omega.{arith}
-use lib.ListN.{length, getD, drop, length-take, length-drop, length-append}
+use lib.ListN.{length, getD, drop, length-append}
 use denote.Ref.{now}
-use borrow.Rule.Slice.PartMut.{same-len-mid}
 use borrow.Author.Needs.{needs}
 use Rattle.rfc6733.specs.Dump.{decimal, line}
 use Rattle.lines.proofs.Lines.{line-first, line-last}
-use Rattle.lines.proofs.Puts.{Passed, none-passed, all-passed, Ready, ready, passed}
+use Rattle.lines.proofs.Puts.{same-length, Passed, none-passed, all-passed, Ready, room-left, ready, passed}
 use Rattle.lines.proofs.put_line.Statement.{statement}
 use Rattle.lines.proofs.put_line.Tie as tie
 
@@ -59,33 +58,10 @@ room-last : (c : tie.After-loop Inv-loop μ-loop)
     Ready (piece (numbers l) (length (numbers l) - 1) 10) (now (start l .args .out)) (l .loop .out) (l .loop .at)
 room-last c = ready _ _ (last c) (start (c .before) .pre .1)
 
-loop-holds : tie.Need-loop-holds Inv-loop μ-loop
-loop-holds c = (omega arith, omega arith, none-passed _ _)
-
-put-number-requires : tie.Need-put-number-requires Inv-loop μ-loop
-put-number-requires c κs =
-    let t = c .before .before in
-    let r = room-next t in
-    simp (length-take, length-drop) (omega (arith, length-append (decimal (getD (numbers (t .before)) (t .before .loop .i) 0)) (32 ∷ [])))
-
 loop-again : tie.Need-loop-again Inv-loop μ-loop
 loop-again c =
     let t = c .before .before .before .before .before in
     (omega arith, omega arith, passed _ _ (next t) (start (t .before) .pre .1) (c .before .before .put-number .ensures))
-
-put-number-requires-2 : tie.Need-put-number-requires-2 Inv-loop μ-loop
-put-number-requires-2 c κs =
-    let ns = numbers (c .before .before .before) in
-    let r = room-last (c .before .before) in
-    simp (length-take, length-drop) (omega (arith, length-append (decimal (getD ns (length ns - 1) 0)) (10 ∷ [])))
-
-same-length : tie.Need-same-length Inv-loop μ-loop
-same-length c =
-    let t = c .before .before .before .before .before in
-    let r = room-last t in
-    let l = t .before .loop in
-    let p = c .before .before .put-number2 in
-    same-len-mid (l .at) (length (l .out) - l .at) (l .out) (p .last .1 .1 .0) (p .kept .1 .1 .0) ∙ r .same-length
 
 returns : tie.Need-returns Inv-loop μ-loop
 returns c =
@@ -99,13 +75,13 @@ put-line-spec =
     Inv-loop
     μ-loop
     (λ c. omega arith)
-    loop-holds
+    (λ c. (omega arith, omega arith, none-passed _ _))
     (λ c. search needs)
     (λ c. search needs)
     (λ c. omega (arith, room-next (c .before)))
     (λ c. omega (arith, room-next (c .before)))
     (λ c. omega (arith, room-next (c .before)))
-    put-number-requires
+    (λ c κs. omega (arith, simp length-append at (room-left (room-next (c .before .before)))))
     (λ c. omega (arith, room-next (c .before .before .before .before .before), c .before .before .put-number .ensures .size-is))
     (λ c. search needs)
     (λ c. omega arith)
@@ -115,7 +91,7 @@ put-line-spec =
     (λ c. omega (arith, room-last (c .before)))
     (λ c. omega (arith, room-last (c .before)))
     (λ c. omega (arith, room-last (c .before)))
-    put-number-requires-2
+    (λ c κs. omega (arith, simp length-append at (room-left (room-last (c .before .before)))))
     (λ c. omega (arith, room-last (c .before .before .before .before .before), c .before .before .put-number2 .ensures .size-is))
-    same-length
+    (λ c. same-length (returns c) (start (c .before .before .before .before .before .before) .pre .1))
     returns)

@@ -1,17 +1,14 @@
 -- `put_message` meets its contract: its own line is put, and the lines of its records after it.
 -- Assumes nothing.
-use Prim.Native.Nat.{_-_}
-use mathlib.Core.Path.{_∙_}
 use mathlib.Core.List.{[], _++_}
 use native.Mathlib.Omega.{arith}
-use lib.ListN.{length, length-take, length-drop, length-append}
+use lib.ListN.{length-append}
 use denote.Ref.{now}
-use borrow.Rule.Slice.PartMut.{same-len-mid}
 use borrow.Author.Needs.{needs}
 use Rattle.rfc6733.specs.Dump.{firstLine, line}
 use Rattle.diameter.specs.Answers.{messageAs}
 use Rattle.lines.specs.Text.{recordsText, messageText}
-use Rattle.lines.proofs.Puts.{Passed, first-passed, all-passed, Ready, ready, passed}
+use Rattle.lines.proofs.Puts.{same-length, Passed, first-passed, all-passed, Ready, room-left, ready, passed}
 use Rattle.lines.proofs.put_message.Statement.{statement}
 use Rattle.lines.proofs.put_message.Tie as tie
 
@@ -37,20 +34,6 @@ put-line-requires c κs =
     let m = b .args .m in
     (omega arith, omega (arith, b .pre .fits, length-append (line (firstLine (messageAs m .counts))) (recordsText (m .records) (now (b .args .table)))))
 
-put-records-requires : tie.Need-put-records-requires
-put-records-requires c κs =
-    let p = c .before .before .before in
-    let r = room p in
-    record { stored = start p .pre .stored; fits = simp (length-take, length-drop) (omega arith) }
-
-same-length : tie.Need-same-length
-same-length c =
-    let p = c .before .before .before .before .before .before in
-    let at = p .put-line .result in
-    let out = p .put-line .last .1 .0 in
-    let q = c .before .before .put-records in
-    same-len-mid at (length out - at) out (q .last .1 .1 .0) (q .kept .1 .1 .0) ∙ room p .same-length
-
 returns : tie.Need-returns
 returns c =
     let p = c .before .before .before .before .before .before in
@@ -66,7 +49,7 @@ put-message-spec =
     (λ c. omega (arith, room (c .before .before)))
     (λ c. omega (arith, room (c .before .before)))
     (λ c. search needs)
-    put-records-requires
+    (λ c κs. record { stored = start (c .before .before .before) .pre .stored; fits = room-left (room (c .before .before .before)) })
     (λ c. omega (arith, room (c .before .before .before .before .before .before), c .before .before .put-records .ensures .size-is))
-    same-length
+    (λ c. same-length (returns c) (start (c .before .before .before .before .before .before) .pre .fits))
     returns)

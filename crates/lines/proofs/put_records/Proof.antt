@@ -3,9 +3,9 @@
 -- Assumes nothing.
 use Prim.Native.Nat.{ℕ, _+_, _*_, _-_, _≤_}
 use mathlib.Core.Path.{_≡_}
-use mathlib.Core.List.{List, [], _++_}
+use mathlib.Core.List.{List, _++_}
 use native.Mathlib.Omega.{arith}
-use lib.ListN.{length, take, drop, length-take, length-drop}
+use lib.ListN.{length, take, drop}
 use denote.Ref.{now}
 use borrow.Author.Needs.{needs}
 use Rattle.octets.proofs.Lists.{rest}
@@ -13,8 +13,8 @@ use Rattle.record.specs.Record.{recordSize, recordAt}
 use Rattle.rfc6733.specs.Dump.{recordLine, line}
 use Rattle.octets.specs.Octets.{Put}
 use Rattle.lines.specs.Text.{recordsText}
-use Rattle.lines.proofs.Records.{linesFrom, lines-first}
-use Rattle.lines.proofs.Puts.{Passed, none-passed, all-passed, Ready, ready, passed}
+use Rattle.lines.proofs.Lines.{linesFrom, lines-first}
+use Rattle.lines.proofs.Puts.{same-length, Passed, none-passed, all-passed, Ready, room-left, ready, passed}
 use Rattle.lines.proofs.put_records.Statement.{statement}
 use Rattle.lines.proofs.put_records.Tie as tie
 
@@ -58,12 +58,6 @@ lent-table : (c : tie.In-loop Inv-loop μ-loop)
     take (length (table l) - at) (drop at (table l)) ≡ drop at (table l)
 lent-table c = rest (table (c .before)) (c .before .loop .i * recordSize) (omega (arith, start (c .before) .pre .stored))
 
-put-record-requires : tie.Need-put-record-requires Inv-loop μ-loop
-put-record-requires c κs =
-    let t = c .before .before in
-    let r = room t in
-    rw (lent-table t) (simp (length-take, length-drop) (omega arith))
-
 -- the line was put
 line-put : (c : tie.After-put-record Inv-loop μ-loop)
     → let l = c .before .before .before .before in
@@ -76,9 +70,6 @@ loop-again : tie.Need-loop-again Inv-loop μ-loop
 loop-again c =
     let t = c .before .before .before .before .before in
     (omega arith, passed _ _ (next t) (start (t .before) .pre .fits) (line-put (c .before .before)))
-
-same-length : tie.Need-same-length Inv-loop μ-loop
-same-length c = ready [] _ (c .before .loop .inv .1) (start (c .before) .pre .fits) .same-length
 
 returns : tie.Need-returns Inv-loop μ-loop
 returns c =
@@ -100,10 +91,10 @@ put-records-spec =
     (λ c. omega (arith, room (c .before)))
     (λ c. omega (arith, room (c .before)))
     (λ c. omega (arith, room (c .before)))
-    put-record-requires
+    (λ c κs. rw (lent-table (c .before .before)) (room-left (room (c .before .before))))
     (λ c. omega (arith, room (c .before .before .before .before .before), line-put (c .before .before) .size-is))
     (λ c. search needs)
     (λ c. omega arith)
     loop-again
-    same-length
+    (λ c. same-length (returns c) (start (c .before) .pre .fits))
     returns)
