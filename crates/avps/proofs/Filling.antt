@@ -23,9 +23,9 @@ use Rattle.rfc6733.proofs.Items.{sound}
 use Rattle.record.proofs.Layouts.{laid-length, laid-append}
 use Rattle.rfc6733.proofs.RunRecords.{records-count}
 use Rattle.avp.specs.declared.AVP.{AVP}
+use Rattle.count.proofs.Lent.{Own}
 use Rattle.avps.specs.declared.fill.Ran.{Ran}
 use Rattle.avps.specs.Fill.{Room, Recorded}
-use Rattle.avps.proofs.OwnBytes.{OwnBytes}
 
 -- Of the run t at a place, n records with the flags e are written over the store `before`, which has become `now`. The run r is
 -- left, which starts at the place q.
@@ -41,11 +41,11 @@ pub record Filling (D : Dictionary) (t r : Tree) (place q depth n e : ℕ) (befo
   pub no-deeper : deepest r ≤ deepest t
 
 pub nothing-filled : {D : Dictionary} {t : Tree} {place depth : ℕ} {store : List ℕ} → Filling D t t place (place + 0) depth 0 0 store store
-nothing-filled {D} {t} {place} {depth} {store} =
+nothing-filled {D} {t} {store = store} =
     record {
       written = [];
       written-length = refl;
-      records-are = ap (λ (q : ℕ). laid (records D q depth t)) (sym (add-zero place));
+      records-are = rw add-zero;
       store-is = sym (over-none store);
       length-kept = refl;
       tiles-is = refl;
@@ -69,8 +69,8 @@ module _ {D : Dictionary} {t : Tree} {place q depth n e : ℕ} {before now : Lis
       let all = rw none at f in
       record {
         count-is = omega (arith, all .count-is);
-        errors-are = sym (all .errors-are ∙ join-zero e);
-        store-is = all .store-is ∙ ap (λ (x : List ℕ). over x before) (sym (all .records-are ∙ append-nil (all .written)));
+        errors-are = rw (all .errors-are, join-zero);
+        store-is = rw (all .records-are, append-nil) (all .store-is);
       }
 
 -- ---- one AVP more
@@ -81,12 +81,12 @@ records-length D place depth t = omega (arith, laid-length (records D place dept
 
 module _ {D : Dictionary} {s : List ℕ} {place left depth : ℕ} {before : List ℕ} (fits : Room (tree (avps D) s) place (length s) left (length before))
     {at n e : ℕ} {now : List ℕ} (f : Filling D (tree (avps D) s) (tree (avps D) (drop at s)) place (place + at) depth n e before now)
-    {a : AVP} {own : List ℕ} (o : OwnBytes D s at a own) where
+    {a : AVP} {own : List ℕ} (o : Own D s at a own) where
   -- there is room for its records in what is left of the store
   pub room-for-one : at + a .size ≤ length s
       → Room (tree (avps D) own) (place + at) (length own) left (length (take (length now - n * recordSize) (drop (n * recordSize) now)))
   room-for-one inside =
-      let j = o .joined-is in
+      let j = o .split in
       let left = ap length (rest now (n * recordSize) (omega arith)) ∙ length-drop (n * recordSize) now in
       record { records-fit = omega arith; places-fit = omega arith; depths-fit = omega arith; levels-fit = omega arith }
 
@@ -96,33 +96,25 @@ module _ {D : Dictionary} {s : List ℕ} {place left depth : ℕ} {before : List
       → Filling D (tree (avps D) s) (tree (avps D) (drop (at + a .size) s)) place (place + (at + a .size)) depth (n + w .records) (join e (w .errors))
       before (putMid (n * recordSize) (length now - n * recordSize) now back)
   one-filled {w} {back} one =
-      let j = o .joined-is in
+      let j = o .split in
       let size = n * recordSize in
-      let more = tree (avps D) (drop (at + a .size) s) in
       let new = laid (records D (place + at) depth (tree (avps D) own)) in
       let next : place + (at + a .size) ≡ place + at + a .size = omega arith in
       let new-length : length (f .written ++ new) ≡ (n + w .records) * recordSize =
-      length-append (f .written) new ∙ omega (arith, records-length D (place + at) depth (tree (avps D) own), one .count-is, f .written-length)
+      simp length-append (omega (arith, records-length D (place + at) depth (tree (avps D) own), one .count-is, f .written-length))
       in
       let store : take size now ++ back ≡ over (f .written ++ new) before =
-      ap (λ (x : List ℕ). take size now ++ x) (one .store-is ∙ ap (over new) (rest now size (omega arith)))
-      ∙ ap (λ (x : List ℕ). take size x ++ over new (drop size x)) (f .store-is)
-      ∙ over-more (f .written) new before size (f .written-length)
+      rw (one .store-is, rest now size (omega arith), f .store-is) (over-more (f .written) new before size (f .written-length))
       in
       rw (lent size now back, next)
       record {
         written = f .written ++ new;
         written-length = new-length;
-        records-are =
-            f .records-are
-            ∙ ap (λ (x : List ℕ). f .written ++ x) (ap laid (j .records-are (place + at) depth) ∙ laid-append (records D (place + at) depth (tree (avps D) own)) _)
-            ∙ sym (append-assoc (f .written) new _);
+        records-are = rw (f .records-are, j .records-are (place + at) depth, laid-append, append-assoc);
         store-is = store;
-        length-kept = ap length store ∙ over-length (f .written ++ new) before (omega (arith, new-length));
+        length-kept = rw store (over-length (f .written ++ new) before (omega (arith, new-length)));
         tiles-is = f .tiles-is ∙ j .tiles-is;
         count-is = omega (arith, one .count-is);
-        errors-are =
-            f .errors-are ∙ ap (join e) (j .errors-are) ∙ sym (join-assoc e _ _)
-            ∙ ap (λ (x : ℕ). join (join e x) (errors D more)) (sym (one .errors-are));
+        errors-are = rw (f .errors-are, j .errors-are, one .errors-are, join-assoc);
         no-deeper = omega arith;
       }

@@ -2,13 +2,13 @@
 -- payload, from the end of its header to its length.
 -- Assumes nothing.
 use Prim.Native.Nat.{ℕ, _+_, _-_, _≤_}
-use mathlib.Core.Path.{_≡_, sym, ap, _∙_}
+use mathlib.Core.Path.{_≡_, ap, _∙_}
 use mathlib.Core.Bool.{Bool}
 use mathlib.Core.List.{List}
 use native.Mathlib.Omega.{arith}
 use lib.ListN.{length, take, drop}
 use Rattle.octets.specs.Run.{item, tree}
-use Rattle.rfc6733.specs.Avp.{flags, headSize, dataSize, avpSize, payload, Exact}
+use Rattle.rfc6733.specs.Avp.{flags, headSize, dataSize, payload, Exact}
 use Rattle.rfc6733.specs.Dictionary.{Dictionary}
 use Rattle.rfc6733.specs.Records.{avps}
 use Rattle.rfc6733.proofs.Complete.{Whole, sizes, complete-whole}
@@ -24,28 +24,28 @@ lent s from to = take (to - from) (drop from s)
 
 -- ---- an AVP's own bytes
 
--- the AVP `a` is at a place of s, its own bytes are exact, and what is left is it with what follows it
-pub record Own (D : Dictionary) (s : List ℕ) (at : ℕ) (a : AVP) : Type 0 where
-  pub is : a ≡ avpOf (lent s at (at + a .size))
-  pub exact : Exact (lent s at (at + a .size))
-  pub split :
-      Joined D (avpSize (drop at s)) (tree (avps D) (drop at s)) (tree (avps D) (lent s at (at + a .size)))
-      (tree (avps D) (drop (at + a .size) s))
+-- own is the bytes of the AVP a, which stands at a place of s: they are exact, and what is left there is they and what follows them
+pub record Own (D : Dictionary) (s : List ℕ) (at : ℕ) (a : AVP) (own : List ℕ) : Type 0 where
+  pub is : a ≡ avpOf own
+  pub exact : Exact own
+  pub length-is : length own ≡ a .size
+  pub split : Joined D (a .size) (tree (avps D) (drop at s)) (tree (avps D) own) (tree (avps D) (drop (at + a .size) s))
 
 -- the fields lie within the item
 item-avp : (nested : List ℕ → Bool) (s : List ℕ) → Whole s → avpOf (item (avpsBy nested) s) ≡ avpOf s
 unfolding avpOf
 item-avp nested s w = let e = item-same nested s w in rw (e .code-is, e .flags-is, e .length-is, e .vendor-is, e .size-is)
 
-pub own : (D : Dictionary) (s : List ℕ) (at : ℕ) (a : AVP) → Turn s at a → Own D s at a
-own D s at a t =
-    let left = drop at s in
-    let n : at + a .size - at ≡ a .size = omega arith in
-    let i : lent s at (at + a .size) ≡ item (avps D) left = ap (λ (k : ℕ). take k left) n ∙ own-is (avps D .nested) s at a t in
+pub own : (D : Dictionary) {s : List ℕ} {at : ℕ} {a : AVP} → Turn s at a → Own D s at a (lent s at (at + a .size))
+own D {s} {at} {a} t =
+    let size : at + a .size - at ≡ a .size = omega arith in
+    let item-is = own-is (avps D .nested) s at a t in
+    rw size
     record {
-      is = t .is ∙ sym (ap avpOf i ∙ item-avp (avps D .nested) left (t .whole));
-      exact = rw i (item-exact D left (t .complete-here));
-      split = rw (i, next-is (avps D .nested) s at a t) (joined D left (t .complete-here));
+      is = rw (item-is, item-avp (avps D .nested) (drop at s) (t .whole)) (t .is);
+      exact = rw item-is (item-exact D (drop at s) (t .complete-here));
+      length-is = t .own-length;
+      split = rw (item-is, next-is (avps D .nested) s at a t, t .fields .size-is) (joined D (drop at s) (t .complete-here));
     }
 
 -- ---- its payload

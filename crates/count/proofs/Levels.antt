@@ -2,7 +2,7 @@
 -- count of one AVP from that of its payload. The counts fit, since no more headers are tried than there are bytes.
 -- Assumes nothing.
 use Prim.Native.Nat.{ℕ, _+_, _-_, _≤_, _<_, max}
-use mathlib.Core.Path.{_≡_, refl, sym, ap, _∙_}
+use mathlib.Core.Path.{_≡_, refl, sym, _∙_}
 use mathlib.Core.Bool.{Bool, true, false, cond}
 use mathlib.Core.List.{List}
 use native.Mathlib.Omega.{arith}
@@ -54,42 +54,39 @@ was-counts left t b n k e = by (ltb left (deepest t)) refl e
 
 -- both counts fit wherever the length does
 pub within : (D : Dictionary) (s : List ℕ) → (recordCount (tree (avps D) s) ≤ length s) × (tried (tree (avps D) s) ≤ length s)
-within D s = let c = count-tried (tree (avps D) s) in let l = tried-length D s in (omega arith, l)
+within D s = let l = tried-length D s in (omega (arith, count-tried (tree (avps D) s)), l)
 
 -- ---- a run, AVP by AVP
 
 -- the tree t is what was passed, with r after it: n records and k headers tried were passed, none too deep
 pub record Passed (left : ℕ) (t r : Tree) (n k : ℕ) : Type 0 where
-  pub seen : ℕ
-  pub seen-fits : seen ≤ left
   pub tiles-is : tiles t ≡ tiles r
   pub records-is : recordCount t ≡ n + recordCount r
   pub tried-is : tried t ≡ k + tried r
-  pub deepest-is : deepest t ≡ max seen (deepest r)
+  pub no-deeper : deepest r ≤ deepest t
+  pub shallow : deepest t ≤ max left (deepest r)
 
 pub none-passed : (left : ℕ) (t : Tree) → Passed left t t 0 0
 none-passed left t =
     record {
-      seen = 0;
-      seen-fits = omega arith;
       tiles-is = refl;
       records-is = omega arith;
       tried-is = omega arith;
-      deepest-is = omega arith;
+      no-deeper = omega arith;
+      shallow = omega arith;
     }
 
 module _ {left : ℕ} {t r : Tree} {n k : ℕ} (p : Passed left t r n k) where
   -- one AVP more, a, where r is it with q after it
   pub one-passed : {D : Dictionary} {size : ℕ} {a q : Tree} {b : Bool} {m j : ℕ} → Joined D size r a q → Known left a b m j
       → Passed left t q (n + m) (k + j)
-  one-passed {a = a} jn kn =
+  one-passed jn kn =
       record {
-        seen = max (p .seen) (deepest a);
-        seen-fits = omega arith;
         tiles-is = p .tiles-is ∙ jn .tiles-is;
         records-is = omega arith;
         tried-is = omega arith;
-        deepest-is = omega arith;
+        no-deeper = omega arith;
+        shallow = omega arith;
       }
 
   -- a header is tried too deep in what is left
@@ -100,10 +97,8 @@ module _ {left : ℕ} {t r : Tree} {n k : ℕ} (p : Passed left t r n k) where
   pub then-ends : (x : Tree) {m j : ℕ} → r ≡ x → deepest x ≤ left → m ≡ n + recordCount x → j ≡ k + tried x
       → Within (tiles x) m j ≡ levelOf left t
   then-ends x e d records-are tried-are =
-      let c = ap recordCount e in
-      let h = ap tried e in
-      let l = ap deepest e in
-      counts (record { shallow = omega arith; tiles-is = sym (p .tiles-is ∙ ap tiles e); records-is = omega arith; tried-is = omega arith })
+      let q = rw e at p in
+      counts (record { shallow = omega arith; tiles-is = sym (q .tiles-is); records-is = omega arith; tried-is = omega arith })
 
 -- ---- one AVP
 

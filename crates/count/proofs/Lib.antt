@@ -1,4 +1,4 @@
 pub mod Levels
 pub mod Counts
-mod Lent
+pub mod Lent
 pub mod AnswerOf

@@ -25,8 +25,8 @@ use Rattle.attribute.specs.ByTable.{dictionaryBy}
 use Rattle.front.proofs.Fronts.{Turn, turn, stuck, here}
 use Rattle.count.specs.declared.Level.the-variants.{Within}
 use Rattle.count.specs.Counts.{levelOf}
-use Rattle.count.proofs.Levels.{Known, was-deep, was-counts, within, Passed, none-passed, one-passed, then-deep, then-ends, one-plain, one-deep, one-group}
-use Rattle.count.proofs.Lent.{Own, own, Inside, inside}
+use Rattle.count.proofs.Levels.{was-deep, was-counts, within, Passed, none-passed, one-passed, then-deep, then-ends, one-plain, one-deep, one-group}
+use Rattle.count.proofs.Lent.{own, Inside, inside}
 use Rattle.attribute.proofs.kind.Reads as kind-reads
 use Rattle.front.proofs.first_avp.Reads as complete-reads
 use Rattle.avp.proofs.AVP.header_size.Reads as header-size-reads
@@ -104,12 +104,6 @@ module _ (t : ℕ) where
       → let b = entry (c .before .before .before) in c .count-level .result ≡ levelOf (b .args .left - 1) (inner b)
   inner-counted c = rw (payload-lent (c .before .before) .is) at (c .count-level .ensures)
 
-  inner-known : (c : count-avp-lts.After-known-told (count-avp-calls t) (count-avp-at t) count-avp.Post)
-      → let b = entry (c .before .before .before .before .before .before) in
-      let k = c .before .tiles .given .0 in
-      Known (b .args .left - 1) (inner b) (k .0) (k .1 .0) (k .1 .1 .0)
-  inner-known c = was-counts _ _ _ _ _ (sym (c .before .tiles .given .1) ∙ inner-counted (c .before .before .before))
-
   -- it is counted with its members, and so both sums fit
   with-members : (c : count-avp-lts.Joined2 (count-avp-calls t) (count-avp-at t) count-avp.Post)
       → let b = entry (c .before .before .before .before .before .before .before) in
@@ -120,7 +114,8 @@ module _ (t : ℕ) where
       let k = c .before .before .tiles .given .0 in
       let m : c .if2 .members ≡ cond (k .0) (k .1 .0) 0 =
       ⊎-elim (λ w. w .1 ∙ rw (w .0 .taken)) (λ w. w .1 ∙ rw (w .0 .left)) (c .if2 .came) in
-      one-group _ _ (entry e .pre .1 .1) _ (omega arith) (is-grouped e) _ (inner-known (c .before)) m
+      let inside = was-counts _ _ _ _ _ (sym (c .before .before .tiles .given .1) ∙ inner-counted (c .before .before .before .before)) in
+      one-group _ _ (entry e .pre .1 .1) _ (omega arith) (is-grouped e) _ inside m
 
   sums-fit : (c : count-avp-lts.Joined2 (count-avp-calls t) (count-avp-at t) count-avp.Post)
       → (1 + c .if2 .members < 2 ^ 64) × (1 + c .before .before .tiles .given .0 .1 .1 .0 < 2 ^ 64)
@@ -128,11 +123,6 @@ module _ (t : ℕ) where
       let b = entry (c .before .before .before .before .before .before .before) in
       let k = was-counts _ _ _ _ _ (with-members c) in
       omega (arith, within (dictionary b) (bytes b), b .good .1 .1 .0 .0)
-
-  count-avp-returns : count-avp-lts.Need-returns (count-avp-calls t) (count-avp-at t) count-avp.Post
-  count-avp-returns c =
-      one-plain _ _ (c .before .before .before .before .pre .1 .1) _ (omega arith)
-      (λ e. c .if1 .taken (told (c .before) ∙ e))
 
   count-avp-returns-2 : count-avp-lts.Need-returns-2 (count-avp-calls t) (count-avp-at t) count-avp.Post
   count-avp-returns-2 c =
@@ -197,11 +187,6 @@ module _ (t : ℕ) where
   turned : (c : Found) → let l = loop c in Turn (run l) (l .loop .at) (c .before .before .a .given .0 .0)
   turned c = let w = c .before .before in turn _ _ _ (omega arith) (sym (w .a .given .1) ∙ w .before .before .first-avp .ensures)
 
-  own-lent : (c : Found)
-      → let l = loop c in
-      Own (by l) (run l) (l .loop .at) (c .before .before .a .given .0 .0)
-  own-lent c = own _ _ _ _ (turned c)
-
   passed : (c : count-level-lts.After-known-told2 (count-level-calls t) (count-level-at t) count-level.Post count-level-Inv-loop count-level-μ-loop)
       → let u = c .before .before .before .before .before in
       let l = loop u in
@@ -210,7 +195,7 @@ module _ (t : ℕ) where
       (l .loop .records + k .0) (l .loop .tried + k .1 .0)
   passed c =
       let u = c .before .before .before .before .before in
-      one-passed (loop u .loop .inv .1) (own-lent u .split)
+      one-passed (loop u .loop .inv .1) (own (by (loop u)) (turned u) .split)
       (was-counts _ _ _ _ _ (sym (c .before .r .given .1) ∙ c .before .before .before .count-avp .ensures))
 
   count-level-returns : count-level-lts.Need-returns (count-level-calls t) (count-level-at t) count-level.Post count-level-Inv-loop count-level-μ-loop
@@ -229,18 +214,12 @@ module _ (t : ℕ) where
       let l = c .before .before .before .before .before .before in
       then-ends (l .loop .inv .1) broken (none-there c) (omega arith) (omega arith) (omega arith)
 
-  count-level-count-avp-requires : count-level-lts.Need-count-avp-requires (count-level-calls t) (count-level-at t) count-level.Post count-level-Inv-loop count-level-μ-loop
-  count-level-count-avp-requires c κs = let o = own-lent (c .before) in (omega arith, (o .is, o .exact, omega arith))
-
   count-level-returns-3 : count-level-lts.Need-returns-3 (count-level-calls t) (count-level-at t) count-level.Post count-level-Inv-loop count-level-μ-loop
   count-level-returns-3 c =
       let u = c .before .before .before .before in
-      let j = own-lent u .split in
+      let j = own (by (loop u)) (turned u) .split in
       let d = was-deep _ _ (sym (c .enum-told2 .given .1) ∙ c .before .before .count-avp .ensures) in
       then-deep (loop u .loop .inv .1) (omega arith)
-
-  count-level-loop-again : count-level-lts.Need-loop-again (count-level-calls t) (count-level-at t) count-level.Post count-level-Inv-loop count-level-μ-loop
-  count-level-loop-again c = (turned (c .before .before .before .before .before) .fits, passed c)
 
   count-level-returns-4 : count-level-lts.Need-returns-4 (count-level-calls t) (count-level-at t) count-level.Post count-level-Inv-loop count-level-μ-loop
   count-level-returns-4 c =
@@ -255,12 +234,9 @@ pub +count-avp+count-level-spec : {M : Type 1} → statement M
     μ-count-avp
     μ-count-level
     (λ t.
-    count-avp-lts.spec
-    (count-avp-calls t)
-    (count-avp-at t)
-    count-avp.Post
+    count-avp-lts.spec _ _ _
     (λ c κs. search needs)
-    (count-avp-returns t)
+    (λ c. one-plain _ _ (c .before .before .before .before .pre .1 .1) _ (omega arith) (λ e. c .if1 .taken (told t (c .before) ∙ e)))
     (λ c κs. search needs)
     (λ c. omega (arith, payload-lent t c))
     (λ c. omega (arith, payload-lent t c))
@@ -274,12 +250,7 @@ pub +count-avp+count-level-spec : {M : Type 1} → statement M
     (λ c. omega (arith, sums-fit t (c .before)))
     (λ c. with-members t (c .before)))
     (λ t.
-    count-level-lts.spec
-    (count-level-calls t)
-    (count-level-at t)
-    count-level.Post
-    count-level-Inv-loop
-    count-level-μ-loop
+    count-level-lts.spec (count-level-calls t) _ _ count-level-Inv-loop count-level-μ-loop
     (λ c. (omega arith, none-passed _ _))
     (count-level-returns t)
     (λ c. search needs)
@@ -294,12 +265,12 @@ pub +count-avp+count-level-spec : {M : Type 1} → statement M
     (λ c. omega (arith, turned t c))
     (λ c. omega (arith, turned t c))
     (λ c. omega (arith, turned t c))
-    (count-level-count-avp-requires t)
+    (λ c κs. let o = own (by t (loop t (c .before))) (turned t (c .before)) in (omega arith, (o .is, o .exact, omega arith)))
     (λ c. search needs)
     (λ c. search needs)
     (count-level-returns-3 t)
     (λ c. omega (arith, fits t (loop t (c .before .before .before .before .before)) (passed t c)))
     (λ c. omega (arith, fits t (loop t (c .before .before .before .before .before)) (passed t c)))
     (λ c. omega (arith, turned t (c .before .before .before .before .before)))
-    (count-level-loop-again t)
+    (λ c. (turned t (c .before .before .before .before .before) .fits, passed t c))
     (count-level-returns-4 t))

@@ -2,7 +2,9 @@
 -- A run's records are those of its AVPs one after the other (`Filling`); an AVP's are its own and its members' (`OwnRecord`); and the data
 -- of an AVP are entered where their value is Grouped (`Entering`). The levels left fall when a group is entered.
 -- Assumes nothing.
+use native.Mathlib.Omega.{arith}
 use borrow.Author.Needs.{needs}
+use Rattle.avps.proofs.Filling.{nothing-filled, all-filled}
 use Rattle.avps.proofs.fill.read_run.Reads as run-reads
 use Rattle.avps.proofs.fill.read_avp.Reads as avp-reads
 use Rattle.avps.proofs.fill.read_value.Reads as value-reads
@@ -14,10 +16,12 @@ use Rattle.avps.proofs.fill.+read_avp+read_run+read_value.Tie.{close}
 use Rattle.avps.proofs.fill.+read_avp+read_run+read_value.Proof.Measures.{μ-run, μ-avp, μ-value, run-at, avp-at, value-at}
 use Rattle.avps.proofs.fill.+read_avp+read_run+read_value.Proof.Run as of-run
 use Rattle.avps.proofs.fill.+read_avp+read_run+read_value.Proof.Run.{run-calls, Inv-loop, μ-loop}
+use Rattle.avps.proofs.fill.+read_avp+read_run+read_value.Proof.Run.{run-loop, run-start, run-turn, run-within, run-filled}
 use Rattle.avps.proofs.fill.+read_avp+read_run+read_value.Proof.Avp as of-avp
-use Rattle.avps.proofs.fill.+read_avp+read_run+read_value.Proof.Avp.{avp-calls}
+use Rattle.avps.proofs.fill.+read_avp+read_run+read_value.Proof.Avp.{avp-calls, avp-start, avp-from-pads, avp-from-join, avp-end-join}
+use Rattle.avps.proofs.fill.+read_avp+read_run+read_value.Proof.Avp.{avp-opened, avp-room, avp-level, avp-inside}
 use Rattle.avps.proofs.fill.+read_avp+read_run+read_value.Proof.Value as of-value
-use Rattle.avps.proofs.fill.+read_avp+read_run+read_value.Proof.Value.{value-calls}
+use Rattle.avps.proofs.fill.+read_avp+read_run+read_value.Proof.Value.{value-calls, value-start}
 mod Measures
 mod Run
 mod Avp
@@ -29,35 +33,37 @@ pub +read-avp+read-run+read-value-spec : {M : Type 1} → statement M
     (λ t.
     avp.spec (avp-calls t) (avp-at t) avp-reads.Post
     (λ c κs. tt)
-    (of-avp.sub-read-value t)
-    (of-avp.part-read-value-start t)
-    (of-avp.part-read-value-end t)
-    (of-avp.add-read-value t)
-    (of-avp.sub-read-value-2 t)
-    (of-avp.part-read-value-start-2 t)
+    (λ c. omega (arith, avp-opened t c))
+    (λ c. omega (arith, avp-opened t c))
+    (λ c. omega (arith, avp-opened t c))
+    (λ c. omega (arith, avp-inside t (c .before)))
+    (λ c. omega (arith, avp-room t (c .before)))
+    (λ c. omega (arith, avp-room t (c .before)))
     (λ c. search needs)
-    (of-avp.read-value-requires t)
-    (of-avp.sub-pads t)
-    (of-avp.part-pads-start t)
+    (λ c κs. let h = c .before .before in (omega (arith, avp-start t h .pre), (avp-level t h, avp-inside t h)))
+    (λ c. omega (arith, avp-opened t (avp-from-pads t c)))
+    (λ c. omega (arith, avp-opened t (avp-from-pads t c)))
     (λ c. search needs)
-    (of-avp.pads-requires t)
+    (λ c κs. omega (arith, avp-opened t (avp-from-pads t (c .before))))
     (λ c κs. tt)
     (λ c κs. tt)
     (of-avp.cast-t27 t)
-    (of-avp.add-t19 t)
-    (of-avp.cast-t28 t)
+    (λ c. omega (arith, avp-inside t (avp-from-join t c)))
+    (λ c. omega (arith, avp-inside t (avp-from-join t c)))
     (λ c. search needs)
-    (of-avp.sub-t14 t)
-    (of-avp.cast-t25 t)
-    (of-avp.sub-t29 t)
-    (of-avp.cast-t30 t)
+    (λ c. omega (arith, avp-start t (avp-from-join t c) .pre .1 .1))
+    (λ c. omega arith)
+    (λ c. omega (arith, avp-opened t (avp-from-join t (c .before))))
+    (λ c. omega (arith, avp-opened t (avp-from-join t (c .before))))
     (λ c κs. tt)
-    (of-avp.add-t19-2 t)
+    (λ c.
+    let b = avp-start t (avp-from-join t (avp-end-join t c)) in
+    omega (arith, of-avp.returns t c .count-is, b .pre .1 .1, b .good))
     (λ c. search needs)
     (of-avp.returns t))
     (λ t.
     run.spec (run-calls t) (run-at t) run-reads.Post Inv-loop μ-loop
-    (of-run.loop-holds t)
+    (λ c. (omega arith, nothing-filled))
     (λ c. search needs)
     (λ c. search needs)
     (λ c. search needs)
@@ -66,28 +72,32 @@ pub +read-avp+read-run+read-value-spec : {M : Type 1} → statement M
     (λ c. search needs)
     (λ c. search needs)
     (of-run.returns t)
-    (of-run.add-next t)
+    (λ c. omega (arith, run-turn t c))
     (λ c. search needs)
-    (of-run.part-read-avp-start t)
-    (of-run.part-read-avp-end t)
-    (of-run.add-read-avp t)
-    (of-run.mul-read-avp t)
-    (of-run.sub-read-avp-2 t)
-    (of-run.part-read-avp-start-2 t)
+    (λ c. omega (arith, run-turn t c))
+    (λ c. omega (arith, run-turn t c))
+    (λ c. omega (arith, run-start t (run-loop t (c .before)) .pre .1 .1))
+    (λ c. omega (arith, run-within t (run-loop t (c .before))))
+    (λ c. omega (arith, run-within t (run-loop t (c .before))))
+    (λ c. omega (arith, run-within t (run-loop t (c .before))))
     (λ c. search needs)
     (of-run.read-avp-requires t)
-    (of-run.add-n t)
+    (λ c.
+    let b = run-start t (run-loop t (c .before .before .before .before .before .before)) in
+    omega (arith, run-filled t (c .before .before .before), b .pre .1 .1, b .good))
     (λ c κs. tt)
-    (of-run.loop-less t)
-    (of-run.loop-again t)
+    (λ c. omega (arith, run-turn t (c .before .before .before .before .before .before .before)))
+    (λ c.
+    let w = c .before .before .before .before in
+    (run-turn t (w .before .before .before) .fits, rw (c .join .ensures) (run-filled t w)))
     (λ c. search needs)
-    (of-run.returns-2 t))
+    (λ c. all-filled _ _ (c .before .loop .inv .1) (c .loop-test .left)))
     (λ t.
     value.spec (value-calls t) (value-at t) value-reads.Post
     (λ c κs. tt)
     (λ c κs. tt)
     (λ c κs. tt)
-    (of-value.sub-read-run t)
+    (λ c. omega (arith, value-start t (c .before) .pre .1 .0))
     (of-value.read-run-requires t)
     (λ c. search needs)
     (of-value.returns t)

@@ -38,34 +38,35 @@ avp-calls t = (
 
 module _ (t : ℕ) where
   -- the entry, from the place where the size of the header is known; and that place, from the later ones
-  abbrev avp-start : avp.After-header-size (avp-calls t) (avp-at t) avp-reads.Post → avp.Start (avp-calls t) (avp-at t) avp-reads.Post
+  abbrev pub avp-start : avp.After-header-size (avp-calls t) (avp-at t) avp-reads.Post → avp.Start (avp-calls t) (avp-at t) avp-reads.Post
   avp-start c = c .before .before .before .before
 
-  abbrev avp-from-pads : avp.After-slice-known2 (avp-calls t) (avp-at t) avp-reads.Post → avp.After-header-size (avp-calls t) (avp-at t) avp-reads.Post
+  abbrev pub avp-from-pads : avp.After-slice-known2 (avp-calls t) (avp-at t) avp-reads.Post
+      → avp.After-header-size (avp-calls t) (avp-at t) avp-reads.Post
   avp-from-pads c = c .before .before .before .before .before
 
-  abbrev avp-from-join : avp.After-join (avp-calls t) (avp-at t) avp-reads.Post → avp.After-header-size (avp-calls t) (avp-at t) avp-reads.Post
+  abbrev pub avp-from-join : avp.After-join (avp-calls t) (avp-at t) avp-reads.Post → avp.After-header-size (avp-calls t) (avp-at t) avp-reads.Post
   avp-from-join c = avp-from-pads (c .before .before .before .before)
 
-  abbrev avp-end-join : avp.After-struct-known2 (avp-calls t) (avp-at t) avp-reads.Post → avp.After-join (avp-calls t) (avp-at t) avp-reads.Post
+  abbrev pub avp-end-join : avp.After-struct-known2 (avp-calls t) (avp-at t) avp-reads.Post → avp.After-join (avp-calls t) (avp-at t) avp-reads.Post
   avp-end-join c = c .before .before .before .before .before .before
 
   -- the AVP's bytes
-  avp-opened : (c : avp.After-header-size (avp-calls t) (avp-at t) avp-reads.Post)
+  pub avp-opened : (c : avp.After-header-size (avp-calls t) (avp-at t) avp-reads.Post)
       → let b = avp-start c in Opened (now (b .args .s)) (b .args .a) (c .header-size .result)
   avp-opened c = let b = avp-start c in opened (b .pre .1 .0 .0) (b .pre .1 .0 .1) (c .header-size .ensures)
 
   -- there is room for its own record
-  avp-room : (c : avp.After-header-size (avp-calls t) (avp-at t) avp-reads.Post)
+  pub avp-room : (c : avp.After-header-size (avp-calls t) (avp-at t) avp-reads.Post)
       → recordSize ≤ length (now (avp-start c .args .store))
   avp-room c = let b = avp-start c in room-for-own _ (avp-opened c) (b .pre .1 .0 .1) (b .pre .1 .1)
 
   -- its header takes a level
-  avp-level : (c : avp.After-header-size (avp-calls t) (avp-at t) avp-reads.Post) → 0 < avp-start c .args .left
+  pub avp-level : (c : avp.After-header-size (avp-calls t) (avp-at t) avp-reads.Post) → 0 < avp-start c .args .left
   avp-level c = let b = avp-start c in level-for-own _ (avp-opened c) (b .pre .1 .0 .1) (b .pre .1 .1)
 
   -- and there is room for its members', whose places and depths fit too
-  avp-inside : (c : avp.After-header-size (avp-calls t) (avp-at t) avp-reads.Post)
+  pub avp-inside : (c : avp.After-header-size (avp-calls t) (avp-at t) avp-reads.Post)
       → let b = avp-start c in
       let a = b .args .a in
       let from = c .header-size .result in
@@ -77,59 +78,11 @@ module _ (t : ℕ) where
 
   -- ---- its needs
 
-  pub sub-read-value : avp.Need-sub-read-value (avp-calls t) (avp-at t) avp-reads.Post
-  sub-read-value c = omega (arith, avp-opened c)
-
-  pub part-read-value-start : avp.Need-part-read-value-start (avp-calls t) (avp-at t) avp-reads.Post
-  part-read-value-start c = omega (arith, avp-opened c)
-
-  pub part-read-value-end : avp.Need-part-read-value-end (avp-calls t) (avp-at t) avp-reads.Post
-  part-read-value-end c = omega (arith, avp-opened c)
-
-  pub add-read-value : avp.Need-add-read-value (avp-calls t) (avp-at t) avp-reads.Post
-  add-read-value c = omega (arith, avp-inside (c .before))
-
-  pub sub-read-value-2 : avp.Need-sub-read-value-2 (avp-calls t) (avp-at t) avp-reads.Post
-  sub-read-value-2 c = omega (arith, avp-room (c .before))
-
-  pub part-read-value-start-2 : avp.Need-part-read-value-start-2 (avp-calls t) (avp-at t) avp-reads.Post
-  part-read-value-start-2 c = omega (arith, avp-room (c .before))
-
-  pub read-value-requires : avp.Need-read-value-requires (avp-calls t) (avp-at t) avp-reads.Post
-  read-value-requires c κs = let h = c .before .before in (omega (arith, avp-start h .pre), (avp-level h, avp-inside h))
-
-  pub sub-pads : avp.Need-sub-pads (avp-calls t) (avp-at t) avp-reads.Post
-  sub-pads c = omega (arith, avp-opened (avp-from-pads c))
-
-  pub part-pads-start : avp.Need-part-pads-start (avp-calls t) (avp-at t) avp-reads.Post
-  part-pads-start c = omega (arith, avp-opened (avp-from-pads c))
-
-  pub pads-requires : avp.Need-pads-requires (avp-calls t) (avp-at t) avp-reads.Post
-  pads-requires c κs = omega (arith, avp-opened (avp-from-pads (c .before)))
-
   pub cast-t27 : avp.Need-cast-t27 (avp-calls t) (avp-at t) avp-reads.Post
   cast-t27 c =
       let h = avp-from-join c in
       let k = h .before .before in
       omega (arith, avp-opened h .fields .length-is, be-small 3 (now (avp-start h .args .s)) 5 (λ i. omega (arith, k .shared-slice-known2 .given i)))
-
-  pub add-t19 : avp.Need-add-t19 (avp-calls t) (avp-at t) avp-reads.Post
-  add-t19 c = omega (arith, avp-inside (avp-from-join c))
-
-  pub cast-t28 : avp.Need-cast-t28 (avp-calls t) (avp-at t) avp-reads.Post
-  cast-t28 c = omega (arith, avp-inside (avp-from-join c))
-
-  pub sub-t14 : avp.Need-sub-t14 (avp-calls t) (avp-at t) avp-reads.Post
-  sub-t14 c = omega (arith, avp-start (avp-from-join c) .pre .1 .1)
-
-  pub cast-t25 : avp.Need-cast-t25 (avp-calls t) (avp-at t) avp-reads.Post
-  cast-t25 c = omega arith
-
-  pub sub-t29 : avp.Need-sub-t29 (avp-calls t) (avp-at t) avp-reads.Post
-  sub-t29 c = omega (arith, avp-opened (avp-from-join (c .before)))
-
-  pub cast-t30 : avp.Need-cast-t30 (avp-calls t) (avp-at t) avp-reads.Post
-  cast-t30 c = omega (arith, avp-opened (avp-from-join (c .before)))
 
   pub returns : avp.Need-returns (avp-calls t) (avp-at t) avp-reads.Post
   returns c =
@@ -140,6 +93,3 @@ module _ (t : ℕ) where
       let b = avp-start h in
       avp-written _ (avp-opened h) (b .pre .1 .0 .1) (b .pre .1 .1) (p .before .before .before .before .read-value .ensures) (p .pads .ensures)
       (o .own-errors .ensures) (j .join .ensures) (c .before .before .before .put .ensures .1)
-
-  pub add-t19-2 : avp.Need-add-t19-2 (avp-calls t) (avp-at t) avp-reads.Post
-  add-t19-2 c = let b = avp-start (avp-from-join (avp-end-join c)) in omega (arith, returns c .count-is, b .pre .1 .1, b .good)

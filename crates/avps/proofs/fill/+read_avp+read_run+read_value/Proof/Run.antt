@@ -3,7 +3,7 @@
 use Prim.Native.Nat.{ℕ, _+_, _-_, _*_, _≤_}
 use mathlib.Core.Path.{sym, _∙_}
 use native.Mathlib.Omega.{arith}
-use lib.ListN.{length, take, drop}
+use lib.ListN.{length, drop}
 use denote.Ref.{now}
 use borrow.Rule.Slice.PartMut.{putMid}
 use Rattle.octets.specs.Run.{tree}
@@ -12,9 +12,9 @@ use Rattle.record.specs.Record.{recordSize}
 use Rattle.rfc6733.specs.Records.{avps}
 use Rattle.attribute.specs.ByTable.{dictionaryBy}
 use Rattle.front.proofs.Fronts.{Turn, turn, stuck}
+use Rattle.count.proofs.Lent.{Own, lent, own}
 use Rattle.avps.specs.Fill.{depthAt}
-use Rattle.avps.proofs.OwnBytes.{OwnBytes, own-bytes}
-use Rattle.avps.proofs.Filling.{Filling, nothing-filled, never-stuck, all-filled, room-for-one, one-filled}
+use Rattle.avps.proofs.Filling.{Filling, never-stuck, room-for-one, one-filled}
 use Rattle.front.proofs.first_avp.Reads as complete
 use Rattle.flags.proofs.join.Reads as join-flags
 use Rattle.avps.proofs.fill.read_run.Reads as run-reads
@@ -35,15 +35,16 @@ abbrev pub μ-loop : run.MeasureT-loop
 
 module _ (t : ℕ) where
   -- the loop, from a turn of it; and the entry
-  abbrev run-loop : run.After-struct-known (run-calls t) (run-at t) run-reads.Post Inv-loop μ-loop
+  abbrev pub run-loop : run.After-struct-known (run-calls t) (run-at t) run-reads.Post Inv-loop μ-loop
       → run.At-loop (run-calls t) (run-at t) run-reads.Post Inv-loop μ-loop
   run-loop c = c .before .before .before .before .before .before .before
 
-  abbrev run-start : run.At-loop (run-calls t) (run-at t) run-reads.Post Inv-loop μ-loop → run.Start (run-calls t) (run-at t) run-reads.Post Inv-loop μ-loop
+  abbrev pub run-start : run.At-loop (run-calls t) (run-at t) run-reads.Post Inv-loop μ-loop
+      → run.Start (run-calls t) (run-at t) run-reads.Post Inv-loop μ-loop
   run-start c = c .before .before .before .before
 
   -- the AVP at `at`
-  run-turn : (c : run.After-struct-known (run-calls t) (run-at t) run-reads.Post Inv-loop μ-loop)
+  pub run-turn : (c : run.After-struct-known (run-calls t) (run-at t) run-reads.Post Inv-loop μ-loop)
       → let l = run-loop c in Turn (now (run-start l .args .s)) (l .loop .at) (c .before .before .a .given .0 .0)
   run-turn c = let w = c .before .before in turn _ _ _ (omega arith) (sym (w .a .given .1) ∙ w .before .before .first-avp .ensures)
 
@@ -52,16 +53,16 @@ module _ (t : ℕ) where
       → let b = run-start (run-loop c) in
       let at = run-loop c .loop .at in
       let a = c .before .before .a .given .0 .0 in
-      OwnBytes (dictionaryBy (b .args .d) (now (b .args .kinds))) (now (b .args .s)) at a (take (at + a .size - at) (drop at (now (b .args .s))))
-  run-own c = own-bytes _ (run-turn c)
+      Own (dictionaryBy (b .args .d) (now (b .args .kinds))) (now (b .args .s)) at a (lent (now (b .args .s)) at (at + a .size))
+  run-own c = own _ (run-turn c)
 
   -- the records so far are within the store
-  run-within : (c : run.At-loop (run-calls t) (run-at t) run-reads.Post Inv-loop μ-loop)
+  pub run-within : (c : run.At-loop (run-calls t) (run-at t) run-reads.Post Inv-loop μ-loop)
       → c .loop .n * recordSize ≤ length (c .loop .store)
   run-within c = omega (arith, run-start c .pre .1 .1, c .loop .inv .1)
 
   -- what has been written, with the AVP at `at`
-  run-filled : (c : run.After-read-avp (run-calls t) (run-at t) run-reads.Post Inv-loop μ-loop)
+  pub run-filled : (c : run.After-read-avp (run-calls t) (run-at t) run-reads.Post Inv-loop μ-loop)
       → let k = c .before .before .before in
       let l = run-loop k in
       let b = run-start l in
@@ -79,36 +80,12 @@ module _ (t : ℕ) where
 
   -- ---- its needs
 
-  pub loop-holds : run.Need-loop-holds (run-calls t) (run-at t) run-reads.Post Inv-loop μ-loop
-  loop-holds c = (omega arith, nothing-filled)
-
   pub returns : run.Need-returns (run-calls t) (run-at t) run-reads.Post Inv-loop μ-loop
   returns c =
       let l = c .before .before .before .before .before in
       let s = now (run-start l .args .s) in
       let none = stuck s (l .loop .at) (omega arith) (sym (c .enum-told .given .1) ∙ c .before .before .first-avp .ensures) in
       absurd (never-stuck s (l .loop .at) (l .loop .inv .1) (run-start l .pre .1 .0) (omega arith) none)
-
-  pub add-next : run.Need-add-next (run-calls t) (run-at t) run-reads.Post Inv-loop μ-loop
-  add-next c = omega (arith, run-turn c)
-
-  pub part-read-avp-start : run.Need-part-read-avp-start (run-calls t) (run-at t) run-reads.Post Inv-loop μ-loop
-  part-read-avp-start c = omega (arith, run-turn c)
-
-  pub part-read-avp-end : run.Need-part-read-avp-end (run-calls t) (run-at t) run-reads.Post Inv-loop μ-loop
-  part-read-avp-end c = omega (arith, run-turn c)
-
-  pub add-read-avp : run.Need-add-read-avp (run-calls t) (run-at t) run-reads.Post Inv-loop μ-loop
-  add-read-avp c = omega (arith, run-start (run-loop (c .before)) .pre .1 .1)
-
-  pub mul-read-avp : run.Need-mul-read-avp (run-calls t) (run-at t) run-reads.Post Inv-loop μ-loop
-  mul-read-avp c = omega (arith, run-within (run-loop (c .before)))
-
-  pub sub-read-avp-2 : run.Need-sub-read-avp-2 (run-calls t) (run-at t) run-reads.Post Inv-loop μ-loop
-  sub-read-avp-2 c = omega (arith, run-within (run-loop (c .before)))
-
-  pub part-read-avp-start-2 : run.Need-part-read-avp-start-2 (run-calls t) (run-at t) run-reads.Post Inv-loop μ-loop
-  part-read-avp-start-2 c = omega (arith, run-within (run-loop (c .before)))
 
   pub read-avp-requires : run.Need-read-avp-requires (run-calls t) (run-at t) run-reads.Post Inv-loop μ-loop
   read-avp-requires c κs =
@@ -117,19 +94,3 @@ module _ (t : ℕ) where
       let b = run-start l in
       let o = run-own k in
       (omega (arith, b .pre), ((o .is, o .exact), room-for-one (b .pre .1 .1) (l .loop .inv .1) o (run-turn k .fits)))
-
-  pub add-n : run.Need-add-n (run-calls t) (run-at t) run-reads.Post Inv-loop μ-loop
-  add-n c =
-      let b = run-start (run-loop (c .before .before .before .before .before .before)) in
-      omega (arith, run-filled (c .before .before .before), b .pre .1 .1, b .good)
-
-  pub loop-less : run.Need-loop-less (run-calls t) (run-at t) run-reads.Post Inv-loop μ-loop
-  loop-less c = omega (arith, run-turn (c .before .before .before .before .before .before .before))
-
-  pub loop-again : run.Need-loop-again (run-calls t) (run-at t) run-reads.Post Inv-loop μ-loop
-  loop-again c =
-      let w = c .before .before .before .before in
-      (run-turn (w .before .before .before) .fits, rw (c .join .ensures) (run-filled w))
-
-  pub returns-2 : run.Need-returns-2 (run-calls t) (run-at t) run-reads.Post Inv-loop μ-loop
-  returns-2 c = all-filled _ _ (c .before .loop .inv .1) (c .loop-test .left)

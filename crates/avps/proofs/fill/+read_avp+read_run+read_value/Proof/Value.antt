@@ -24,7 +24,7 @@ value-calls t = (table-kind.Asked, table-kind.Learnt, new.Asked, new.Learnt, kin
 
 module _ (t : ℕ) where
   -- the entry, from the place where the kind of the value is known
-  abbrev value-start : value.After-kind2 (value-calls t) (value-at t) value-reads.Post → value.Start (value-calls t) (value-at t) value-reads.Post
+  abbrev pub value-start : value.After-kind2 (value-calls t) (value-at t) value-reads.Post → value.Start (value-calls t) (value-at t) value-reads.Post
   value-start c = c .before .before .before .before .before .before
 
   abbrev by : value.Start (value-calls t) (value-at t) value-reads.Post → Dictionary
@@ -50,9 +50,6 @@ module _ (t : ℕ) where
       a-group (value-shown k) (other-address _ _ _) (sym (k .kind2 .ensures) ∙ c .if1 .taken)
 
   -- ---- its needs
-
-  pub sub-read-run : value.Need-sub-read-run (value-calls t) (value-at t) value-reads.Post
-  sub-read-run c = omega (arith, value-start (c .before) .pre .1 .0)
 
   pub read-run-requires : value.Need-read-run-requires (value-calls t) (value-at t) value-reads.Post
   read-run-requires c κs =
