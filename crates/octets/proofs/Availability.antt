@@ -5,20 +5,12 @@ use Prim.Native.Nat.{ℕ, _-_, _≤_, _<_}
 use mathlib.Core.Path.{_≡_, refl}
 use mathlib.Core.Bool.{Bool, true, false, cond}
 use lib.Dec.{ltb}
-use borrow.Author.Tests.{lt-ltb, le-ltb, ltb-true, ltb-false}
+use borrow.Author.Tests.{ltb-true, ltb-false}
 use Rattle.octets.specs.declared.at_hand.Available.{Available}
 use Rattle.octets.specs.declared.at_hand.Available.the-variants.{Enough, Absent}
 use Rattle.octets.specs.AtHand.{availableOf}
 
 module _ (stated available : ℕ) where
-  pub absent : available < stated → Absent (stated - available) ≡ availableOf stated available
-  unfolding availableOf
-  absent h = simp (lt-ltb _ _ h)
-
-  pub enough : stated ≤ available → Enough ≡ availableOf stated available
-  unfolding availableOf
-  enough h = simp (le-ltb _ _ h)
-
   -- n bytes are absent
   pub record Missing (n : ℕ) : Type 0 where
     pub fewer : available < stated

@@ -73,18 +73,12 @@ module _ (t : ℕ) where
   abbrev entry : Group → Entry
   entry e = e .before .before .before .before
 
-  -- the dictionary, the AVP's bytes, and the trees of it and of its payload
+  -- the dictionary and the AVP's bytes
   abbrev dictionary : Entry → Dictionary
   dictionary b = dictionaryBy (b .args .d) (now (b .args .kinds))
 
   abbrev bytes : Entry → List ℕ
   bytes b = now (b .args .s)
-
-  abbrev one : Entry → Tree
-  one b = tree (avps (dictionary b)) (bytes b)
-
-  abbrev inner : Entry → Tree
-  inner b = tree (avps (dictionary b)) (payload (bytes b))
 
   -- its kind is the dictionary's
   told : (c : count-avp-lts.After-kind (count-avp-calls t) (count-avp-at t) count-avp.Post)
@@ -101,14 +95,14 @@ module _ (t : ℕ) where
   payload-lent c = let b = entry (c .before) in inside _ _ _ (b .pre .1 .1) (here _ _ (b .pre .1 .0)) (c .header-size .ensures)
 
   inner-counted : (c : count-avp-lts.After-count-level (count-avp-calls t) (count-avp-at t) count-avp.Post)
-      → let b = entry (c .before .before .before) in c .count-level .result ≡ levelOf (b .args .left - 1) (inner b)
+      → let b = entry (c .before .before .before) in c .count-level .result ≡ levelOf (b .args .left - 1) (tree (avps (dictionary b)) (payload (bytes b)))
   inner-counted c = rw (payload-lent (c .before .before) .is) at (c .count-level .ensures)
 
   -- it is counted with its members, and so both sums fit
   with-members : (c : count-avp-lts.Joined2 (count-avp-calls t) (count-avp-at t) count-avp.Post)
       → let b = entry (c .before .before .before .before .before .before .before) in
       let k = c .before .before .tiles .given .0 in
-      Within true (1 + c .if2 .members) (1 + k .1 .1 .0) ≡ levelOf (b .args .left) (one b)
+      Within true (1 + c .if2 .members) (1 + k .1 .1 .0) ≡ levelOf (b .args .left) (tree (avps (dictionary b)) (bytes b))
   with-members c =
       let e = c .before .before .before .before .before .before .before in
       let k = c .before .before .tiles .given .0 in
@@ -204,16 +198,6 @@ module _ (t : ℕ) where
       let d = some-tried (by l) (drop (l .loop .at) (run l)) (some-left (c .before)) in
       then-deep (l .loop .inv .1) (omega arith)
 
-  count-level-add-t18 : count-level-lts.Need-add-t18 (count-level-calls t) (count-level-at t) count-level.Post count-level-Inv-loop count-level-μ-loop
-  count-level-add-t18 c =
-      let l = c .before .before .before .before .before .before in
-      omega (arith, ap tried (none-there c), fits l (l .loop .inv .1))
-
-  count-level-returns-2 : count-level-lts.Need-returns-2 (count-level-calls t) (count-level-at t) count-level.Post count-level-Inv-loop count-level-μ-loop
-  count-level-returns-2 c =
-      let l = c .before .before .before .before .before .before in
-      then-ends (l .loop .inv .1) broken (none-there c) (omega arith) (omega arith) (omega arith)
-
   count-level-returns-3 : count-level-lts.Need-returns-3 (count-level-calls t) (count-level-at t) count-level.Post count-level-Inv-loop count-level-μ-loop
   count-level-returns-3 c =
       let u = c .before .before .before .before in
@@ -230,9 +214,7 @@ module _ (t : ℕ) where
 
 pub +count-avp+count-level-spec : {M : Type 1} → statement M
 +count-avp+count-level-spec =
-    close
-    μ-count-avp
-    μ-count-level
+    close μ-count-avp μ-count-level
     (λ t.
     count-avp-lts.spec _ _ _
     (λ c κs. search needs)
@@ -259,8 +241,10 @@ pub +count-avp+count-level-spec : {M : Type 1} → statement M
     (λ c κs. search needs)
     (λ c. search needs)
     (λ c. search needs)
-    (count-level-add-t18 t)
-    (count-level-returns-2 t)
+    (λ c. let l = c .before .before .before .before .before .before in omega (arith, ap tried (none-there t c), fits t l (l .loop .inv .1)))
+    (λ c.
+    let l = c .before .before .before .before .before .before in
+    then-ends (l .loop .inv .1) broken (none-there t c) (omega arith) (omega arith) (omega arith))
     (λ c. omega (arith, turned t c))
     (λ c. omega (arith, turned t c))
     (λ c. omega (arith, turned t c))

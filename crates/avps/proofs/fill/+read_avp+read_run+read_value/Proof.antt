@@ -4,7 +4,8 @@
 -- Assumes nothing.
 use native.Mathlib.Omega.{arith}
 use borrow.Author.Needs.{needs}
-use Rattle.avps.proofs.Filling.{nothing-filled, all-filled}
+use Rattle.count.proofs.Lent.{own}
+use Rattle.avps.proofs.Filling.{nothing-filled, all-filled, one-filled}
 use Rattle.avps.proofs.fill.read_run.Reads as run-reads
 use Rattle.avps.proofs.fill.read_avp.Reads as avp-reads
 use Rattle.avps.proofs.fill.read_value.Reads as value-reads
@@ -16,10 +17,10 @@ use Rattle.avps.proofs.fill.+read_avp+read_run+read_value.Tie.{close}
 use Rattle.avps.proofs.fill.+read_avp+read_run+read_value.Proof.Measures.{μ-run, μ-avp, μ-value, run-at, avp-at, value-at}
 use Rattle.avps.proofs.fill.+read_avp+read_run+read_value.Proof.Run as of-run
 use Rattle.avps.proofs.fill.+read_avp+read_run+read_value.Proof.Run.{run-calls, Inv-loop, μ-loop}
-use Rattle.avps.proofs.fill.+read_avp+read_run+read_value.Proof.Run.{run-loop, run-start, run-turn, run-within, run-filled}
+use Rattle.avps.proofs.fill.+read_avp+read_run+read_value.Proof.Run.{run-loop, run-start, run-turn, run-within}
 use Rattle.avps.proofs.fill.+read_avp+read_run+read_value.Proof.Avp as of-avp
 use Rattle.avps.proofs.fill.+read_avp+read_run+read_value.Proof.Avp.{avp-calls, avp-start, avp-from-pads, avp-from-join, avp-end-join}
-use Rattle.avps.proofs.fill.+read_avp+read_run+read_value.Proof.Avp.{avp-opened, avp-room, avp-level, avp-inside}
+use Rattle.avps.proofs.fill.+read_avp+read_run+read_value.Proof.Avp.{avp-opened, avp-room}
 use Rattle.avps.proofs.fill.+read_avp+read_run+read_value.Proof.Value as of-value
 use Rattle.avps.proofs.fill.+read_avp+read_run+read_value.Proof.Value.{value-calls, value-start}
 mod Measures
@@ -36,11 +37,11 @@ pub +read-avp+read-run+read-value-spec : {M : Type 1} → statement M
     (λ c. omega (arith, avp-opened t c))
     (λ c. omega (arith, avp-opened t c))
     (λ c. omega (arith, avp-opened t c))
-    (λ c. omega (arith, avp-inside t (c .before)))
+    (λ c. omega (arith, avp-opened t (c .before), avp-start t (c .before) .pre .1 .1))
     (λ c. omega (arith, avp-room t (c .before)))
     (λ c. omega (arith, avp-room t (c .before)))
     (λ c. search needs)
-    (λ c κs. let h = c .before .before in (omega (arith, avp-start t h .pre), (avp-level t h, avp-inside t h)))
+    (of-avp.read-value-requires t)
     (λ c. omega (arith, avp-opened t (avp-from-pads t c)))
     (λ c. omega (arith, avp-opened t (avp-from-pads t c)))
     (λ c. search needs)
@@ -48,8 +49,8 @@ pub +read-avp+read-run+read-value-spec : {M : Type 1} → statement M
     (λ c κs. tt)
     (λ c κs. tt)
     (of-avp.cast-t27 t)
-    (λ c. omega (arith, avp-inside t (avp-from-join t c)))
-    (λ c. omega (arith, avp-inside t (avp-from-join t c)))
+    (λ c. let h = avp-from-join t c in omega (arith, avp-opened t h, avp-start t h .pre .1 .1))
+    (λ c. let h = avp-from-join t c in omega (arith, avp-opened t h, avp-start t h .pre .1 .1))
     (λ c. search needs)
     (λ c. omega (arith, avp-start t (avp-from-join t c) .pre .1 .1))
     (λ c. omega arith)
@@ -83,13 +84,19 @@ pub +read-avp+read-run+read-value-spec : {M : Type 1} → statement M
     (λ c. search needs)
     (of-run.read-avp-requires t)
     (λ c.
-    let b = run-start t (run-loop t (c .before .before .before .before .before .before)) in
-    omega (arith, run-filled t (c .before .before .before), b .pre .1 .1, b .good))
+    let r = c .before .before .before in
+    let k = r .before .before .before in
+    let l = run-loop t k in
+    let b = run-start t l in
+    omega (arith, one-filled (b .pre .1 .1) (l .loop .inv .1) (own _ (run-turn t k)) (r .read-avp .ensures), b .pre .1 .1, b .good))
     (λ c κs. tt)
     (λ c. omega (arith, run-turn t (c .before .before .before .before .before .before .before)))
     (λ c.
-    let w = c .before .before .before .before in
-    (run-turn t (w .before .before .before) .fits, rw (c .join .ensures) (run-filled t w)))
+    let r = c .before .before .before .before in
+    let k = r .before .before .before in
+    let l = run-loop t k in
+    let u = run-turn t k in
+    (u .fits, rw (c .join .ensures) (one-filled (run-start t l .pre .1 .1) (l .loop .inv .1) (own _ u) (r .read-avp .ensures))))
     (λ c. search needs)
     (λ c. all-filled _ _ (c .before .loop .inv .1) (c .loop-test .left)))
     (λ t.

@@ -1,15 +1,12 @@
 -- `read_avp`: an AVP's records are its own and its members' after it (`OwnRecord`).
 -- Assumes nothing.
-use Prim.Native.Nat.{ℕ, _+_, _-_, _≤_, _<_}
+use Prim.Native.Nat.{ℕ, _≤_}
 use native.Mathlib.Omega.{arith}
-use lib.ListN.{length, take, drop}
+use lib.ListN.{length}
 use denote.Ref.{now}
 use Rattle.octets.proofs.Numbers.{be-small}
 use Rattle.record.specs.Record.{recordSize}
-use Rattle.rfc6733.specs.Entered.{entered}
-use Rattle.attribute.specs.ByTable.{dictionaryBy}
-use Rattle.avps.specs.Fill.{Room}
-use Rattle.avps.proofs.OwnRecord.{lentData, Opened, opened, room-for-own, level-for-own, room-for-members, avp-written}
+use Rattle.avps.proofs.OwnRecord.{Opened, opened, room-for-own, level-for-own, room-for-members, avp-written}
 use Rattle.avp.proofs.AVP.header_size.Reads as header-size
 use Rattle.flags.proofs.join.Reads as join-flags
 use Rattle.record.proofs.Record.put.Reads as put
@@ -37,46 +34,41 @@ avp-calls t = (
 )
 
 module _ (t : ℕ) where
-  -- the entry, from the place where the size of the header is known; and that place, from the later ones
-  abbrev pub avp-start : avp.After-header-size (avp-calls t) (avp-at t) avp-reads.Post → avp.Start (avp-calls t) (avp-at t) avp-reads.Post
+  -- the place where the size of the header is known; the entry from there, and that place from the later ones
+  abbrev Headed : Type 0
+  Headed = avp.After-header-size (avp-calls t) (avp-at t) avp-reads.Post
+
+  abbrev pub avp-start : Headed → avp.Start (avp-calls t) (avp-at t) avp-reads.Post
   avp-start c = c .before .before .before .before
 
-  abbrev pub avp-from-pads : avp.After-slice-known2 (avp-calls t) (avp-at t) avp-reads.Post
-      → avp.After-header-size (avp-calls t) (avp-at t) avp-reads.Post
+  abbrev pub avp-from-pads : avp.After-slice-known2 (avp-calls t) (avp-at t) avp-reads.Post → Headed
   avp-from-pads c = c .before .before .before .before .before
 
-  abbrev pub avp-from-join : avp.After-join (avp-calls t) (avp-at t) avp-reads.Post → avp.After-header-size (avp-calls t) (avp-at t) avp-reads.Post
+  abbrev pub avp-from-join : avp.After-join (avp-calls t) (avp-at t) avp-reads.Post → Headed
   avp-from-join c = avp-from-pads (c .before .before .before .before)
 
   abbrev pub avp-end-join : avp.After-struct-known2 (avp-calls t) (avp-at t) avp-reads.Post → avp.After-join (avp-calls t) (avp-at t) avp-reads.Post
   avp-end-join c = c .before .before .before .before .before .before
 
   -- the AVP's bytes
-  pub avp-opened : (c : avp.After-header-size (avp-calls t) (avp-at t) avp-reads.Post)
+  pub avp-opened : (c : Headed)
       → let b = avp-start c in Opened (now (b .args .s)) (b .args .a) (c .header-size .result)
   avp-opened c = let b = avp-start c in opened (b .pre .1 .0 .0) (b .pre .1 .0 .1) (c .header-size .ensures)
 
   -- there is room for its own record
-  pub avp-room : (c : avp.After-header-size (avp-calls t) (avp-at t) avp-reads.Post)
+  pub avp-room : (c : Headed)
       → recordSize ≤ length (now (avp-start c .args .store))
   avp-room c = let b = avp-start c in room-for-own _ (avp-opened c) (b .pre .1 .0 .1) (b .pre .1 .1)
 
-  -- its header takes a level
-  pub avp-level : (c : avp.After-header-size (avp-calls t) (avp-at t) avp-reads.Post) → 0 < avp-start c .args .left
-  avp-level c = let b = avp-start c in level-for-own _ (avp-opened c) (b .pre .1 .0 .1) (b .pre .1 .1)
-
-  -- and there is room for its members', whose places and depths fit too
-  pub avp-inside : (c : avp.After-header-size (avp-calls t) (avp-at t) avp-reads.Post)
-      → let b = avp-start c in
-      let a = b .args .a in
-      let from = c .header-size .result in
-      let body = lentData (now (b .args .s)) a from in
-      let store = now (b .args .store) in
-      Room (entered (dictionaryBy (b .args .d) (now (b .args .kinds))) (a .code) (a .«vendor_id») body) (b .args .place + from) (length body) (b .args .left - 1)
-      (length (take (length store - recordSize) (drop recordSize store)))
-  avp-inside c = let b = avp-start c in room-for-members _ (avp-opened c) (b .pre .1 .0 .1) (now (b .args .store)) (b .pre .1 .1)
-
   -- ---- its needs
+
+  pub read-value-requires : avp.Need-read-value-requires (avp-calls t) (avp-at t) avp-reads.Post
+  read-value-requires c κs =
+      let h = c .before .before in
+      let b = avp-start h in
+      let x = b .pre .1 .0 .1 in
+      let o = avp-opened h in
+      (omega (arith, b .pre), (level-for-own _ o x (b .pre .1 .1), room-for-members _ o x (now (b .args .store)) (b .pre .1 .1)))
 
   pub cast-t27 : avp.Need-cast-t27 (avp-calls t) (avp-at t) avp-reads.Post
   cast-t27 c =

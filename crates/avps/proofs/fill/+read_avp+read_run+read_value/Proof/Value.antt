@@ -46,7 +46,6 @@ module _ (t : ℕ) where
       Group (by b) (b .args .code) (b .args .vendor) (now (b .args .«data»))
   value-group c =
       let k = c .before in
-      let b = value-start k in
       a-group (value-shown k) (other-address _ _ _) (sym (k .kind2 .ensures) ∙ c .if1 .taken)
 
   -- ---- its needs
