@@ -3,14 +3,13 @@
 -- Assumes nothing.
 use Prim.Native.Nat.{ℕ, _+_, _-_, _%_, _≤_}
 use mathlib.Core.Path.{_≡_, refl}
-use mathlib.Core.Bool.{Bool, true, false, cond, not}
+use mathlib.Core.Bool.{Bool, true, false, cond}
 use mathlib.Core.List.{List}
 use native.Mathlib.Omega.{arith}
 use lib.ListN.{length}
-use lib.Dec.{ltb}
 use Rattle.flags.specs.Flags.{bit}
 use Rattle.rfc6733.specs.Avp.{flags, avpLength, vendorBit, headSize, dataSize, padding, avpSize, avpRefusals, complete}
-use Rattle.refusal.proofs.Answers.{and-true, true-and, kept-lt, lt-kept}
+use Rattle.rfc6733.proofs.Tests.{tests}
 
 -- a header is two or three words
 pub record Head (f : ℕ) : Type 0 where
@@ -50,29 +49,8 @@ sizes s = let p = padding-few (dataSize s) in record { padding-is = refl; few = 
 
 pub complete-whole : (s : List ℕ) → complete s ≡ true → Whole s
 unfolding complete avpRefusals
-complete-whole s e =
-    let t4 = and-true (not (ltb (length s) 4)) _ e in
-    let t5 = and-true (not (ltb (length s) 5)) _ (t4 .1) in
-    let t8 = and-true (not (ltb (length s) 8)) _ (t5 .1) in
-    let l8 = and-true (not (ltb (avpLength s) 8)) _ (t8 .1) in
-    let there = and-true (not (ltb (length s) (avpLength s))) _ (l8 .1) in
-    let long = and-true (not (ltb (avpLength s) (headSize (flags s)))) _ (there .1) in
-    let padded = and-true (not (ltb (length s) (avpSize s))) _ (long .1) in
-    record {
-      eight = kept-lt (length s) 8 (t8 .0);
-      long = kept-lt (avpLength s) (headSize (flags s)) (long .0);
-      room = kept-lt (length s) (avpSize s) (padded .0);
-    }
+complete-whole s e = let h = simp tests at e in search
 
 pub whole-complete : (s : List ℕ) → Whole s → complete s ≡ true
 unfolding complete avpRefusals
-whole-complete s w =
-    let h = head (flags s) in
-    let z = sizes s in
-    true-and (lt-kept (length s) 4 (omega arith))
-    (true-and (lt-kept (length s) 5 (omega arith))
-    (true-and (lt-kept (length s) 8 (omega arith))
-    (true-and (lt-kept (avpLength s) 8 (omega arith))
-    (true-and (lt-kept (length s) (avpLength s) (omega arith))
-    (true-and (lt-kept (avpLength s) (headSize (flags s)) (omega arith))
-    (true-and (lt-kept (length s) (avpSize s) (omega arith)) refl))))))
+whole-complete s w = let h = head (flags s) in let z = sizes s in simp tests (search arith)

@@ -1,3 +1,4 @@
+pub mod Tests
 pub mod Listed
 pub mod Complete
 pub mod Items

@@ -2,14 +2,15 @@
 -- and the padding is held as a number. The record keeps the rules, and its numbers fit.
 -- Assumes nothing.
 use Prim.Native.Nat.{ℕ, _+_, _-_, _%_, _^_, _≤_, _<_}
-use mathlib.Core.Path.{_≡_, refl, sym, ap, ap₂, _∙_}
-use mathlib.Core.Bool.{Bool, true, false, cond}
+use mathlib.Core.Path.{_≡_, refl, ap, _∙_}
+use mathlib.Core.Bool.{true, false}
+use mathlib.Core.Logic.{inl, inr}
 use mathlib.Core.List.{List, [], _∷_, _++_}
 use native.Mathlib.Omega.{arith}
 use lib.ListN.{length, take, drop, length-drop, drop-of-length-le, take-append-drop}
 use lib.Seq.{drop-drop}
 use lib.Dec.{eqb}
-use Rattle.octets.specs.Octets.{be, field, pack, Bytes}
+use Rattle.octets.specs.Octets.{be, pack, Bytes}
 use Rattle.octets.proofs.Numbers.{be-small}
 use Rattle.octets.proofs.Layouts.{pack-unpack}
 use Rattle.flags.specs.Flags.{bit}
@@ -19,8 +20,9 @@ use Rattle.record.specs.Kinds.{grouped, time}
 use Rattle.record.specs.Record.{Record}
 use Rattle.rfc6733.specs.Records.{recordOf}
 use Rattle.record.specs.Table.{bare}
-use Rattle.rfc6733.specs.Writer.{isGroup, headOf, statedData, avpBytes, headFields, padBytes}
+use Rattle.rfc6733.specs.Writer.{headOf, statedData, avpBytes, headFields, padBytes}
 use Rattle.rfc6733.proofs.Complete.{head, sizes, complete-whole}
+use Rattle.rfc6733.proofs.Tests.{decide}
 use Rattle.rfc6733.proofs.Items.{payload-length}
 use Rattle.round_trip.specs.Rules.{Good}
 use Rattle.round_trip.specs.Tables.{Fits}
@@ -35,39 +37,15 @@ abbrev padsAt : List ℕ → List ℕ
 padsAt a = drop (avpLength a) a
 
 three : (h n : ℕ) (a : List ℕ) → take h a ++ (take n (drop h a) ++ drop (h + n) a) ≡ a
-three h n a =
-    ap (λ (x : List ℕ). take h a ++ (take n (drop h a) ++ x)) (sym (drop-drop n h a))
-    ∙ ap (λ (x : List ℕ). take h a ++ x) (take-append-drop n (drop h a))
-    ∙ take-append-drop h a
-
-header-by : (b : Bool) (a : List ℕ) → cond b 12 8 ≤ length a → Bytes a
-    → pack (field 4 (be 4 a 0) ∷ field 1 (be 1 a 4) ∷ field 3 (be 3 a 5) ∷ cond b (field 4 (cond b (be 4 a 8) 0) ∷ []) []) ≡ take (cond b 12 8) a
-header-by true a h b = pack-unpack (4 ∷ 1 ∷ 3 ∷ 4 ∷ []) a 0 h b
-header-by false a h b = pack-unpack (4 ∷ 1 ∷ 3 ∷ []) a 0 h b
+three h n a = rw (← drop-drop n h a, take-append-drop n (drop h a), take-append-drop h a)
 
 module _ (place depth : ℕ) (a : List ℕ) (v : Value) where
   abbrev pub own : Record
   own = bare (recordOf place depth a v)
 
-  pub own-group : isGroup own ≡ eqb (v .kind) grouped
-  unfolding bare recordOf
-  own-group = refl
-
-  pub own-depth : own .depth ≡ depth
-  unfolding bare recordOf
-  own-depth = refl
-
-  pub own-place : own .place ≡ place + headSize (flags a)
-  unfolding bare recordOf
-  own-place = refl
-
   own-head : headOf own ≡ headSize (flags a)
   unfolding bare recordOf headOf
   own-head = refl
-
-  pub own-data : statedData own ≡ dataSize a
-  unfolding bare recordOf statedData headOf dataSize
-  own-data = refl
 
   no-vendor : bit vendorBit (flags a) ≡ false → vendor a ≡ 0
   unfolding vendor
@@ -75,11 +53,7 @@ module _ (place depth : ℕ) (a : List ℕ) (v : Value) where
 
   vendor-small : Bytes a → vendor a < 256 ^ 4
   unfolding vendor
-  vendor-small b = by (bit vendorBit (flags a))
-    where
-      by : (t : Bool) → cond t (be 4 a 8) 0 < 256 ^ 4
-      by true = be-small 4 a 8 b
-      by false = omega arith
+  vendor-small b = elim (decide (bit vendorBit (flags a))) [ inl e ↦ rw e (be-small 4 a 8 b) | inr e ↦ rw e (omega arith) ]
 
   module _ (exact : Exact a) (bytes : Bytes a) where
     pads-length : length (padsAt a) ≡ padding (dataSize a)
@@ -90,7 +64,11 @@ module _ (place depth : ℕ) (a : List ℕ) (v : Value) where
     header-again =
         let w = complete-whole a (exact .whole) in
         let z = sizes a in
-        header-by (bit vendorBit (flags a)) a (omega arith) bytes
+        let there : headSize (flags a) ≤ length a = omega arith in
+        elim (decide (bit vendorBit (flags a))) [
+          | inl e ↦ rw e (pack-unpack (4 ∷ 1 ∷ 3 ∷ 4 ∷ []) a 0 (rw e at there) bytes)
+          | inr e ↦ rw e (pack-unpack (4 ∷ 1 ∷ 3 ∷ []) a 0 (rw e at there) bytes)
+        ]
 
     pads-again : padBytes own ≡ padsAt a
     unfolding bare recordOf pads
@@ -105,10 +83,7 @@ module _ (place depth : ℕ) (a : List ℕ) (v : Value) where
         let l : length body ≡ dataSize a = ap length e ∙ payload-length a w in
         let n : headOf own + length body ≡ avpLength a = omega arith in
         let at : avpLength a ≡ headSize (flags a) + dataSize a = omega arith in
-        ap₂ (λ (x : ℕ) (y : List ℕ). pack (headFields own x) ++ (y ++ padBytes own)) n e
-        ∙ ap₂ (λ (x y : List ℕ). x ++ (payload a ++ y)) header-again pads-again
-        ∙ ap (λ (x : ℕ). take (headSize (flags a)) a ++ (payload a ++ drop x a)) at
-        ∙ three (headSize (flags a)) (dataSize a) a
+        rw (n, e, header-again, pads-again, at) (three (headSize (flags a)) (dataSize a) a)
 
     -- ---- its record
 
@@ -116,7 +91,7 @@ module _ (place depth : ℕ) (a : List ℕ) (v : Value) where
     unfolding pads be
     no-pads e =
         let l = pads-length in
-        ap (λ (s : List ℕ). be 3 s 0) (drop-of-length-le a {i = avpLength a} (omega (arith, length-drop (avpLength a) a)))
+        rw (drop-of-length-le a {i = avpLength a} (omega (arith, length-drop (avpLength a) a)))
 
     unused : pads a % 256 ^ (3 - padding (dataSize a)) ≡ 0
     unfolding pads
@@ -135,14 +110,7 @@ module _ (place depth : ℕ) (a : List ℕ) (v : Value) where
           kinds = kind;
           no-vendor = no-vendor;
           group = λ e. let p = no-padding (dataSize a) (words e) in record { padding-is = p; pads-are = no-pads p };
-          leaf =
-              λ e.
-              record {
-                long = w .long;
-                within = omega (arith, exact .size-is);
-                padding-is = refl;
-                unused = unused;
-              };
+          leaf = λ e. record { long = w .long; within = omega (arith, exact .size-is); padding-is = refl; unused = unused };
         }
 
     pub own-fits : place + length a < 256 ^ 4 → depth ≤ 64 → v .kind ≤ time → Fits own

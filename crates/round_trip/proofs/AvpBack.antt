@@ -20,7 +20,7 @@ use Rattle.rfc6733.proofs.Complete.{sizes, whole-complete}
 use Rattle.round_trip.specs.Rules.{Good}
 use Rattle.round_trip.specs.Tables.{Fits}
 use Rattle.round_trip.specs.Tops.{topOf, topRecord}
-use Rattle.round_trip.proofs.Laid.{field-back}
+use Rattle.round_trip.proofs.Tables.{field-back}
 use Rattle.round_trip.proofs.Lengths.{head-low, head-length, avp-length, Padded}
 use Rattle.round_trip.proofs.Pads.{pads-read}
 

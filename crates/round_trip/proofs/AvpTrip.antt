@@ -2,11 +2,12 @@
 -- record and from its data, which are the members' bytes of a group that tiles and stand at the record's place otherwise.
 -- Assumes nothing.
 use Prim.Native.Nat.{ℕ, _+_, _%_, _^_, _≤_, _<_}
-use mathlib.Core.Path.{_≡_, refl, sym, ap, ap₂, _∙_}
-use mathlib.Core.Bool.{Bool, true, false, cond}
+use mathlib.Core.Path.{_≡_, refl, sym, ap, _∙_}
+use mathlib.Core.Bool.{true, false}
+use mathlib.Core.Logic.{inl, inr}
 use mathlib.Core.List.{List, _++_}
 use native.Mathlib.Omega.{arith}
-use lib.ListN.{length, take, drop}
+use lib.ListN.{length}
 use lib.Dec.{eqb}
 use Rattle.octets.specs.Octets.{Bytes}
 use Rattle.octets.proofs.Runs.{false-true}
@@ -15,18 +16,21 @@ use Rattle.rfc6733.specs.Value.{Value, value}
 use Rattle.record.specs.Kinds.{grouped, time}
 use Rattle.record.specs.Forest as table
 use Rattle.record.specs.Forest.{Forest, none, flat}
-use Rattle.rfc6733.specs.Writer.{forestBytes, bodyOf, dataIn}
+use Rattle.rfc6733.specs.Writer.{headOf, statedData, forestBytes, bodyOf}
+use Rattle.rfc6733.specs.Records.{recordOf}
+use Rattle.record.specs.Table.{bare}
 use Rattle.rfc6733.proofs.Complete.{head, sizes, complete-whole}
+use Rattle.rfc6733.proofs.Tests.{decide}
 use Rattle.rfc6733.proofs.Items.{payload-length}
 use Rattle.round_trip.specs.Forests.{size}
 use Rattle.round_trip.specs.Tables.{AllFit}
 use Rattle.round_trip.specs.Trip.{Ungrouped}
 use Rattle.round_trip.proofs.Rules.{good-keeps}
 use Rattle.round_trip.proofs.Lengths.{long}
-use Rattle.round_trip.proofs.Laid.{both-fit}
-use Rattle.round_trip.proofs.Again.{own, own-group, own-depth, own-place, own-data, avp-again, own-good, own-fits}
-use Rattle.round_trip.proofs.Sound.{Sound, sound-kept}
-use Rattle.round_trip.proofs.Places.{Holds, holds-part, holds-fits, holds-data}
+use Rattle.round_trip.proofs.Tables.{both-fit}
+use Rattle.round_trip.proofs.Again.{own, avp-again, own-good, own-fits}
+use Rattle.round_trip.proofs.Shape.{Sound, sound-kept}
+use Rattle.round_trip.proofs.Packed.{Holds, holds-part, holds-fits, holds-data}
 
 -- the forest f, whose trees stand at a depth, keeps the rules, fits a table, and writes s
 pub record Trip (pool : List ℕ) (depth : ℕ) (s : List ℕ) (f : Forest) : Type 0 where
@@ -46,38 +50,27 @@ module _ (pool : List ℕ) (place depth : ℕ) (a : List ℕ) (exact : Exact a) 
   some : 0 < length a
   some = omega (arith, exact .size-is, sizes a, complete-whole a (exact .whole), head (flags a))
 
-  -- the data that its record points at
-  pointed : (v : Value) → dataIn pool (own place depth a v) ≡ payload a
-  pointed v =
-      ap₂ (λ (n p : ℕ). take n (drop p pool)) (own-data place depth a v) (own-place place depth a v)
-      ∙ holds-data pool (place + headSize (flags a)) (dataSize a) (payload a) (payload-length a (complete-whole a (exact .whole)))
-      (payload-held pool place a exact holds)
-
   module _ (v : Value) (members rest : Forest) (x : List ℕ) (kind : v .kind ≤ time)
       (words : eqb (v .kind) grouped ≡ true → dataSize a % 4 ≡ 0)
       (inside : eqb (v .kind) grouped ≡ true → forestBytes pool members ≡ payload a)
       (no-members : eqb (v .kind) grouped ≡ false → members ≡ none) where
     body-again : bodyOf pool (own place depth a v) (forestBytes pool members) ≡ payload a
-    body-again = rw (own-group place depth a v) (by (eqb (v .kind) grouped) inside)
-      where
-        by : (b : Bool) → (b ≡ true → forestBytes pool members ≡ payload a)
-            → cond b (forestBytes pool members) (dataIn pool (own place depth a v)) ≡ payload a
-        by true h = h refl
-        by false h = pointed v
+    unfolding bare recordOf statedData headOf dataSize
+    body-again =
+        elim (decide (eqb (v .kind) grouped)) [
+          | inl e ↦ rw e (inside e)
+          | inr e ↦ rw e (holds-data pool _ _ (payload a) (payload-length a (complete-whole a (exact .whole))) (payload-held pool place a exact holds))
+        ]
 
     trip-one : Sound (length pool) (depth + 1) members → AllFit (flat members) → Trip pool depth x rest
         → Trip pool depth (a ++ x) (table.node (own place depth a v) members rest)
+    unfolding bare recordOf
     trip-one s f r =
         let g = own-good place depth a v exact bytes (length pool) low high kind (holds-fits pool place a some holds) words in
         record {
-          sound-is =
-              Sound.more (good-keeps depth (length pool) (own place depth a v) g) (own-depth place depth a v)
-              (λ e. no-members (sym (own-group place depth a v) ∙ e)) s (r .sound-is);
-          fits = (
-            own-fits place depth a v exact bytes within high kind,
-            both-fit (flat members) (flat rest) f (r .fits),
-          );
-          is = ap₂ _++_ (avp-again place depth a v exact bytes _ body-again) (r .is);
+          sound-is = Sound.more (good-keeps depth (length pool) (own place depth a v) g) refl no-members s (r .sound-is);
+          fits = (own-fits place depth a v exact bytes within high kind, both-fit (flat members) (flat rest) f (r .fits));
+          is = rw (avp-again place depth a v exact bytes _ body-again, r .is);
         }
 
   pub trip-leaf : (v : Value) (rest : Forest) (x : List ℕ) → Ungrouped v → Trip pool depth x rest
@@ -90,7 +83,7 @@ module _ (pool : List ℕ) (place depth : ℕ) (a : List ℕ) (exact : Exact a) 
   member-words : (members : Forest) → Trip pool (depth + 1) (payload a) members → dataSize a % 4 ≡ 0
   member-words members m =
       let l = long pool members (sound-kept (length pool) (depth + 1) members (m .sound-is)) in
-      let e : dataSize a ≡ size members = sym (payload-length a (complete-whole a (exact .whole))) ∙ sym (ap length (m .is)) ∙ l .is in
+      let e : dataSize a ≡ size members = cc (payload-length a (complete-whole a (exact .whole)), ap length (m .is)) in
       rw e (l .words)
 
   pub trip-group : (e : ℕ) (members rest : Forest) (x : List ℕ) → Trip pool (depth + 1) (payload a) members → Trip pool depth x rest

@@ -23,7 +23,7 @@ use Rattle.round_trip.specs.Forests.{size}
 use Rattle.round_trip.specs.Rules.{Kept}
 use Rattle.round_trip.specs.Tables.{AllFit}
 use Rattle.round_trip.specs.Tops.{Top, topOf, tops, topRecords}
-use Rattle.round_trip.proofs.Laid.{fit-after}
+use Rattle.round_trip.proofs.Tables.{fit-after}
 use Rattle.round_trip.proofs.Lengths.{head-low, avp-length, body, long}
 use Rattle.round_trip.proofs.AvpBack.{exact-back, top-back}
 

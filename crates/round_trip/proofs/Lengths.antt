@@ -2,13 +2,14 @@
 -- data that places point at are there. With its padding an AVP is whole words, and so is a forest.
 -- Assumes nothing.
 use Prim.Native.Nat.{ℕ, _+_, _%_, _≤_}
-use mathlib.Core.Path.{_≡_, refl, sym, ap, _∙_}
-use mathlib.Core.Bool.{Bool, true, false, cond}
-use mathlib.Core.List.{List, [], _∷_, _++_}
+use mathlib.Core.Path.{_≡_, refl, _∙_}
+use mathlib.Core.Bool.{cond}
+use mathlib.Core.Logic.{inl, inr}
+use mathlib.Core.List.{List}
 use native.Mathlib.Omega.{arith}
 use lib.ListN.{length, drop, length-append, length-drop}
 use lib.Seq.{length-take-le}
-use Rattle.octets.specs.Octets.{field, pack, widths, octets}
+use Rattle.octets.specs.Octets.{pack, octets}
 use Rattle.octets.proofs.Numbers.{length-octets, length-pack}
 use Rattle.flags.specs.Flags.{bit}
 use Rattle.rfc6733.specs.Avp.{vendorBit, headSize, padding}
@@ -17,6 +18,7 @@ use Rattle.record.specs.Forest.{Forest, none, node, forest}
 use Rattle.rfc6733.specs.Writer.{Fields, isGroup, headOf, statedData, avpBytes, forestBytes, messageBytes, tableBytes, headerFields, headFields, padBytes, bodyOf}
 use Rattle.record.specs.Table.{tableOf}
 use Rattle.rfc6733.proofs.Complete.{head}
+use Rattle.rfc6733.proofs.Tests.{decide}
 use Rattle.round_trip.specs.Forests.{size}
 use Rattle.round_trip.specs.Rules.{Good, Valid, Kept}
 use Rattle.round_trip.proofs.Kept.{valid-kept}
@@ -29,11 +31,8 @@ head-low r = head (r .flags) .low
 
 pub head-length : (r : Record) (n : ℕ) → length (pack (headFields r n)) ≡ headOf r
 unfolding headOf headSize
-head-length r n = length-pack (headFields r n) ∙ by (bit vendorBit (r .flags))
-  where
-    by : (b : Bool) → 4 + (1 + (3 + widths (cond b (field 4 (r .vendor) ∷ []) []))) ≡ cond b 12 8
-    by true = refl
-    by false = refl
+head-length r n =
+    length-pack (headFields r n) ∙ elim (decide (bit vendorBit (r .flags))) [ inl e ↦ rw e | inr e ↦ rw e ]
 
 pub pad-length : (r : Record) → r .padding ≤ 3 → length (padBytes r) ≡ r .padding
 pad-length r h = let l = length-octets 3 (r .pads) in length-take-le (r .padding) (octets 3 (r .pads)) (omega arith)
@@ -41,8 +40,7 @@ pad-length r h = let l = length-octets 3 (r .pads) in length-take-le (r .padding
 pub avp-length : (r : Record) (body : List ℕ) → r .padding ≤ 3 → length (avpBytes r body) ≡ headOf r + length body + r .padding
 unfolding avpBytes
 avp-length r body h =
-    let front = pack (headFields r (headOf r + length body)) in
-    omega (arith, length-append front (body ++ padBytes r), length-append body (padBytes r), head-length r (headOf r + length body), pad-length r h)
+    rw (length-append (pack (headFields r (headOf r + length body))) _, length-append body, head-length, pad-length r h) (omega arith)
 
 -- ---- its data
 
@@ -68,27 +66,22 @@ pub record Body (pool : List ℕ) (r : Record) (members : List ℕ) (n : ℕ) : 
 -- the data of a record that keeps the rules, with members of n bytes in whole words
 pub body : (pool : List ℕ) (allowed : ℕ) (r : Record) (members : List ℕ) (n : ℕ) → Good allowed (length pool) r → length members ≡ n → n % 4 ≡ 0
     → Body pool r members n
-body pool allowed r members n g e w = by (isGroup r) refl
-  where
-    by : (b : Bool) → isGroup r ≡ b → Body pool r members n
-    by true x =
-        let u = g .group x in
-        let z = no-padding n w in
-        record { size-is = rw x e; padded-is = rw x (padded r (length members) (u .padding-is ∙ sym z ∙ ap padding (sym e))) }
-    by false x =
-        let l = g .leaf x in
-        let there = length-drop (r .place) pool in
-        let z = length-take-le (statedData r) (drop (r .place) pool) (omega arith) in
-        record { size-is = rw x z; padded-is = rw x (padded r _ (l .padding-is ∙ ap padding (sym z))) }
+body pool allowed r members n g e w =
+    elim (decide (isGroup r)) [
+      | inl x ↦
+          let u = g .group x in
+          record { size-is = rw x e; padded-is = rw x (padded r (length members) (cc (no-padding n w))) }
+      | inr x ↦
+          let l = g .leaf x in
+          let z = length-take-le (statedData r) (drop (r .place) pool) (omega (arith, length-drop (r .place) pool)) in
+          record { size-is = rw x z; padded-is = rw x (padded r _ (cc)) }
+    ]
 
 -- ---- a forest
 
 pub record Long (pool : List ℕ) (f : Forest) : Type 0 where
   pub is : length (forestBytes pool f) ≡ size f
   pub words : size f % 4 ≡ 0
-
-add-words : (h k p t : ℕ) → h % 4 ≡ 0 → (k + p) % 4 ≡ 0 → t % 4 ≡ 0 → (h + k + p + t) % 4 ≡ 0
-add-words h k p t a b c = omega arith
 
 pub long : (pool : List ℕ) (f : Forest) → Kept (length pool) f → Long pool f
 unfolding headOf
@@ -100,9 +93,7 @@ long pool (node r i t) k =
     let here = bodyOf pool r (forestBytes pool i) in
     record {
       is = omega (arith, length-append (avpBytes r here) (forestBytes pool t), avp-length r here (b .padded-is .few), b .size-is, after .is);
-      words =
-          add-words (headOf r) (cond (isGroup r) (size i) (statedData r)) (r .padding) (size t) (head (r .flags) .words)
-          (rw (b .size-is) at (b .padded-is .words)) (after .words);
+      words = omega (arith, head (r .flags), b .size-is, b .padded-is .words);
     }
 
 -- ---- a message
@@ -111,11 +102,10 @@ pub message-length : (f : Fields) (inside : List ℕ) → length (messageBytes f
 unfolding messageBytes
 message-length f inside =
     let front = headerFields f (20 + length inside) in
-    length-append (pack front) inside ∙ ap (λ (x : ℕ). x + length inside) (length-pack front)
+    rw (length-append (pack front) inside, length-pack front)
 
 pub total-size : (f : Fields) (table pool : List ℕ) → Valid 1 (length pool) (tableOf table)
     → length (tableBytes f table pool) ≡ 20 + size (forest (tableOf table))
 unfolding tableBytes
 total-size f table pool v =
-    message-length f (forestBytes pool (forest (tableOf table)))
-    ∙ ap (λ (x : ℕ). 20 + x) (long pool (forest (tableOf table)) (valid-kept 1 (length pool) (tableOf table) v) .is)
+    rw (message-length, long pool (forest (tableOf table)) (valid-kept 1 (length pool) (tableOf table) v) .is)

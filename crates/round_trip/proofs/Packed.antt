@@ -1,12 +1,13 @@
--- Parts of bytes are bytes.
+-- Parts of bytes are bytes. And where bytes stand in the bytes that places point into: what stands at a place has its parts at that
+-- place and further on.
 -- Assumes nothing.
-use Prim.Native.Nat.{ℕ, _+_, _<_}
-use mathlib.Core.Path.{_≡_, refl}
-use mathlib.Core.Bool.{Bool, true, false}
-use mathlib.Core.List.{List}
+use Prim.Native.Nat.{ℕ, _+_, _≤_, _<_}
+use mathlib.Core.Path.{_≡_, refl, sym, ap, _∙_}
+use mathlib.Core.Logic.{inl, inr}
+use mathlib.Core.List.{List, _++_, append-assoc}
 use native.Mathlib.Omega.{arith}
-use lib.ListN.{take, drop, getD, length-take, List·getD-eq-default}
-use lib.Seq.{getD-drop, getD-take}
+use lib.ListN.{length, take, drop, length-append, length-take, length-drop, take-append-drop, List·getD-eq-default}
+use lib.Seq.{getD-drop, getD-take, take-at, drop-at, drop-drop, drop-append-le}
 use lib.Dec.{ltb}
 use borrow.Author.Tests.{ltb-true, ltb-false}
 use Rattle.octets.specs.Octets.{Bytes}
@@ -14,18 +15,17 @@ use Rattle.octets.specs.Run.{item, after}
 use Rattle.rfc6733.specs.Avp.{flags, headSize, dataSize, avpSize, payload}
 use Rattle.rfc6733.specs.Dictionary.{Dictionary}
 use Rattle.rfc6733.specs.Records.{avps}
+use Rattle.rfc6733.proofs.Tests.{decide}
 
 pub bytes-drop : (k : ℕ) (s : List ℕ) → Bytes s → Bytes (drop k s)
 bytes-drop k s b i = rw (getD-drop k s i 0) (b (k + i))
 
 pub bytes-take : (n : ℕ) (s : List ℕ) → Bytes s → Bytes (take n s)
-bytes-take n s b i = by (ltb i n) refl
-  where
-    by : (t : Bool) → ltb i n ≡ t → getD (take n s) i 0 < 256
-    by true e = rw (getD-take n s i 0 (ltb-true i n e)) (b i)
-    by false e =
-        let h = ltb-false i n e in
-        rw (List·getD-eq-default (take n s) 0 {n = i} (omega (arith, length-take n s))) (omega arith)
+bytes-take n s b i =
+    elim (decide (ltb i n)) [
+      | inl e ↦ rw (getD-take n s i 0 (ltb-true i n e)) (b i)
+      | inr e ↦ rw (List·getD-eq-default (take n s) 0 {n = i} (omega (arith, length-take n s, ltb-false))) (omega arith)
+    ]
 
 -- ---- parts of a run
 
@@ -40,3 +40,33 @@ bytes-after D s b = bytes-drop (avpSize s) s b
 pub bytes-payload : (a : List ℕ) → Bytes a → Bytes (payload a)
 unfolding payload
 bytes-payload a b = bytes-take (dataSize a) (drop (headSize (flags a)) a) (bytes-drop (headSize (flags a)) a b)
+
+-- ---- at a place
+
+pub record Holds (pool : List ℕ) (place : ℕ) (s : List ℕ) : Type 0 where
+  pub beyond : List ℕ
+  pub is : drop place pool ≡ s ++ beyond
+
+module _ (pool : List ℕ) (place : ℕ) where
+  pub holds-here : (n : ℕ) → Holds pool place (take n (drop place pool))
+  holds-here n = record { beyond = drop n (drop place pool); is = sym (take-append-drop n (drop place pool)) }
+
+  pub holds-front : (a x : List ℕ) → Holds pool place (a ++ x) → Holds pool place a
+  holds-front a x h = record { beyond = x ++ h .beyond; is = h .is ∙ append-assoc a x (h .beyond) }
+
+  pub holds-behind : (a x : List ℕ) → Holds pool place (a ++ x) → Holds pool (place + length a) x
+  holds-behind a x h = record { beyond = h .beyond; is = rw (← drop-drop (length a) place pool, h .is, append-assoc, drop-at a _ (length a) refl) }
+
+  -- n bytes of it, from its byte k on
+  pub holds-part : (s : List ℕ) (k n : ℕ) → k ≤ length s → Holds pool place s → Holds pool (place + k) (take n (drop k s))
+  holds-part s k n le h =
+      record {
+        beyond = drop n (drop k s) ++ h .beyond;
+        is = rw (← drop-drop k place pool, h .is, drop-append-le, ← append-assoc, take-append-drop);
+      }
+
+  pub holds-fits : (s : List ℕ) → 0 < length s → Holds pool place s → place + length s ≤ length pool
+  holds-fits s some h = omega (arith, length-drop place pool, ap length (h .is), length-append s (h .beyond))
+
+  pub holds-data : (n : ℕ) (s : List ℕ) → length s ≡ n → Holds pool place s → take n (drop place pool) ≡ s
+  holds-data n s e h = rw (h .is, take-at s (h .beyond) n e)

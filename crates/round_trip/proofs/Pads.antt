@@ -2,14 +2,14 @@
 -- 256 to the q, and neither way is anything lost.
 -- Assumes nothing.
 use Prim.Native.Nat.{ℕ, zero, suc, _+_, _-_, _*_, _/_, _%_, _^_, _≤_, _<_}
-use mathlib.Core.Path.{_≡_, sym, ap, ap₂, _∙_}
+use mathlib.Core.Path.{_≡_}
 use mathlib.Core.List.{List}
-use native.Mathlib.Nat.{add-zero, add-suc, mul-one, mul-assoc, pow-suc, one-le-pow, zero-lt-suc, mod-eq-of-lt, mul-div-cancel, mul-mod-left}
+use native.Mathlib.Nat.{add-zero, add-suc, mul-one, pow-suc, one-le-pow, zero-lt-suc, mod-eq-of-lt, mul-div-cancel, mul-mod-left}
 use native.Mathlib.Omega.{arith}
 use lib.Arith.{mod-mul}
 use lib.Pow.{pow-add}
 use lib.ListN.{length, take, getD, List·getD-eq-default}
-use lib.Seq.{take-at, take-all}
+use lib.Seq.{take-at, take-length}
 use Rattle.octets.specs.Octets.{be, octets, Bytes}
 use Rattle.octets.proofs.Numbers.{length-octets, read-written, written-read, written-parts}
 
@@ -19,18 +19,13 @@ some-power q = one-le-pow q 256 (zero-lt-suc 255)
 -- the bytes that are absent count as 0
 be-short : (p q : ℕ) (s : List ℕ) → length s ≤ p → be (p + q) s 0 ≡ be p s 0 * 256 ^ q
 unfolding be
-be-short p zero s h = ap (λ (n : ℕ). be n s 0) (add-zero p) ∙ sym (mul-one (be p s 0))
+be-short p zero s h = rw (add-zero p, mul-one)
 be-short p (suc q) s h =
     let absent : getD s (0 + (p + q)) 0 ≡ 0 = List·getD-eq-default s 0 {n = 0 + (p + q)} (omega arith) in
-    ap (λ (n : ℕ). be n s 0) (add-suc p q)
-    ∙ ap₂ (λ (x y : ℕ). x * 256 + y) (be-short p q s h) absent
-    ∙ add-zero (be p s 0 * 256 ^ q * 256)
-    ∙ mul-assoc (be p s 0) (256 ^ q) 256
-    ∙ ap (λ (x : ℕ). be p s 0 * x) (sym (pow-suc 256 q))
+    rw (add-suc p q, be-short p q s h, absent, pow-suc) (omega arith)
 
 front-part : (p q v : ℕ) → take p (octets (p + q) v) ≡ octets p (v / 256 ^ q)
-front-part p q v =
-    ap (take p) (written-parts p q v) ∙ take-at (octets p (v / 256 ^ q)) (octets q v) p (length-octets p (v / 256 ^ q))
+front-part p q v = rw (written-parts p q v) (take-at (octets p (v / 256 ^ q)) (octets q v) p (length-octets p (v / 256 ^ q)))
 
 -- ---- written and read
 
@@ -38,29 +33,19 @@ padding-read : (p q v : ℕ) → v < 256 ^ (p + q) → v % 256 ^ q ≡ 0 → be 
 padding-read p q v small low =
     let w = v / 256 ^ q in
     let l = length-octets p w in
-    let all : w % 256 ^ p * 256 ^ q + v % 256 ^ q ≡ v =
-    sym (mod-mul v (some-power p) (some-power q)) ∙ ap (λ (x : ℕ). v % x) (sym (pow-add 256 p q)) ∙ mod-eq-of-lt small
-    in
-    ap (λ (s : List ℕ). be (p + q) s 0) (front-part p q v)
-    ∙ be-short p q (octets p w) (omega arith)
-    ∙ ap (λ (x : ℕ). x * 256 ^ q) (read-written p w)
-    ∙ sym (add-zero _)
-    ∙ ap (λ (x : ℕ). w % 256 ^ p * 256 ^ q + x) (sym low)
-    ∙ all
+    let all : v % (256 ^ p * 256 ^ q) ≡ v = rw (← pow-add 256 p q) (mod-eq-of-lt small) in
+    rw (front-part p q v, be-short p q (octets p w) (omega arith), read-written p w) (omega (arith, mod-mul v (some-power p) (some-power q)))
 
 -- ---- read and written
 
 padding-written : (q : ℕ) (s : List ℕ) → Bytes s → take (length s) (octets (length s + q) (be (length s + q) s 0)) ≡ s
 padding-written q s b =
     let p = length s in
-    front-part p q (be (p + q) s 0)
-    ∙ ap (λ (x : ℕ). octets p (x / 256 ^ q)) (be-short p q s (omega arith))
-    ∙ ap (octets p) (mul-div-cancel (be p s 0) (some-power q))
-    ∙ written-read p s 0 (omega arith) b
-    ∙ take-all p s (omega arith)
+    rw (front-part p q (be (p + q) s 0), be-short p q s (omega arith), mul-div-cancel (be p s 0) (some-power q), written-read p s 0 (omega arith) b)
+    (take-length s)
 
 padding-unused : (q : ℕ) (s : List ℕ) → be (length s + q) s 0 % 256 ^ q ≡ 0
-padding-unused q s = ap (λ (x : ℕ). x % 256 ^ q) (be-short (length s) q s (omega arith)) ∙ mul-mod-left (be (length s) s 0) (256 ^ q)
+padding-unused q s = rw (be-short (length s) q s (omega arith)) (mul-mod-left (be (length s) s 0) (256 ^ q))
 
 -- ---- in three bytes
 

@@ -23,9 +23,9 @@ use Rattle.round_trip.specs.Tops.{tops, topRecords, roots, ofDepth}
 use Rattle.round_trip.proofs.Shape.{flat-forest}
 use Rattle.round_trip.proofs.Kept.{valid-kept}
 use Rattle.round_trip.proofs.Lengths.{message-length}
-use Rattle.round_trip.proofs.Laid.{table-fits}
+use Rattle.round_trip.proofs.Tables.{table-fits}
 use Rattle.round_trip.proofs.ForestBack.{back}
-use Rattle.round_trip.proofs.Roots.{roots-table}
+use Rattle.round_trip.proofs.Kept.{roots-table}
 use Rattle.round_trip.proofs.Written.{written-writable}
 
 pub record ReadBack (D : Dictionary) (f : Fields) (table pool : List ℕ) (n : ℕ) : Type 0 where

@@ -28,12 +28,11 @@ use Rattle.round_trip.proofs.Packed.{bytes-take, bytes-drop}
 use Rattle.round_trip.proofs.Headers.{message-again}
 use Rattle.round_trip.proofs.LeafKinds.{sawp-lawful, rfc-lawful}
 use Rattle.round_trip.proofs.Tables.{table-none}
-use Rattle.round_trip.proofs.Laid.{fit-bare, laid-read}
-use Rattle.round_trip.proofs.Sound.{sound-valid, sound-read}
-use Rattle.round_trip.proofs.Places.{holds-here}
-use Rattle.round_trip.proofs.RunForest.{flat-records}
+use Rattle.round_trip.proofs.Tables.{fit-bare, laid-read}
+use Rattle.round_trip.proofs.Shape.{sound-valid, sound-read}
+use Rattle.round_trip.proofs.Packed.{holds-here}
 use Rattle.round_trip.proofs.AvpTrip.{Trip}
-use Rattle.round_trip.proofs.RunTrip.{trips}
+use Rattle.round_trip.proofs.RunTrip.{flat-records, trips}
 use Rattle.round_trip.proofs.Written.{writable-written}
 
 pub record WrittenAgain (D : Dictionary) (s : List ℕ) (room : ℕ) : Type 0 where

@@ -4,24 +4,47 @@
 use Prim.Native.Nat.{ℕ, _+_, _^_, _≤_, _<_}
 use mathlib.Core.Path.{_≡_, refl}
 use mathlib.Core.Bool.{Bool, true, false}
-use mathlib.Core.List.{List, _++_}
+use mathlib.Core.Logic.{inl, inr}
+use mathlib.Core.List.{List, _++_, map, map-append}
 use native.Mathlib.Omega.{arith}
 use lib.ListN.{length}
 use Rattle.octets.specs.Octets.{Bytes}
-use Rattle.octets.specs.Run.{item, after, Tree, group, node, tree, tiles, deepest}
+use Rattle.octets.specs.Run.{item, after, Tree, done, broken, plain, group, node, tree, tiles, deepest}
 use Rattle.octets.proofs.Runs.{false-true, Parts, tree-none, tree-step, by-run}
 use Rattle.rfc6733.specs.Avp.{flags, headSize, payload, complete, Exact}
+use Rattle.rfc6733.specs.Value.{Value}
 use Rattle.rfc6733.specs.Dictionary.{Dictionary}
-use Rattle.rfc6733.specs.Records.{valueOf, groupValue, avps, errors}
+use Rattle.rfc6733.specs.Records.{valueOf, groupValue, avps, errors, records}
+use Rattle.record.specs.Forest as table
+use Rattle.record.specs.Forest.{none, flat}
+use Rattle.record.specs.Table.{bare}
 use Rattle.rfc6733.proofs.Alone.{item-exact}
 use Rattle.rfc6733.proofs.Complete.{sizes, complete-whole}
 use Rattle.rfc6733.proofs.Items.{sound, payload-length}
-use Rattle.round_trip.specs.Trip.{Lawful, forestOf}
-use Rattle.round_trip.proofs.Packed.{bytes-item, bytes-payload, bytes-after}
+use Rattle.rfc6733.proofs.Tests.{decide}
+use Rattle.round_trip.specs.Trip.{Ungrouped, Lawful, forestOf}
+use Rattle.round_trip.proofs.Packed.{bytes-item, bytes-payload, bytes-after, Holds, holds-front, holds-behind}
 use Rattle.round_trip.proofs.LeafKinds.{value-leaf}
-use Rattle.round_trip.proofs.Sound.{Sound}
-use Rattle.round_trip.proofs.Places.{Holds, holds-front, holds-behind}
+use Rattle.round_trip.proofs.Shape.{Sound}
+use Rattle.round_trip.proofs.Again.{own}
 use Rattle.round_trip.proofs.AvpTrip.{Trip, payload-held, trip-leaf, trip-group}
+
+-- ---- the records of a run, as a table holds them, are its forest laid out
+
+pub flat-records : (D : Dictionary) (place depth : ℕ) (t : Tree) → map bare (records D place depth t) ≡ flat (forestOf D place depth t)
+flat-records D place depth done = refl
+flat-records D place depth broken = refl
+flat-records D place depth (plain a rest) = rw (flat-records D (place + length a) depth rest)
+flat-records D place depth (group a inner rest) =
+    let members = records D (place + headSize (flags a)) (depth + 1) inner in
+    let m = flat-records D (place + headSize (flags a)) (depth + 1) inner in
+    let r = flat-records D (place + length a) depth rest in
+    elim (decide (tiles inner)) [
+      | inl e ↦ rw (e, map-append bare members (records D (place + length a) depth rest), m, r)
+      | inr e ↦ rw (e, r)
+    ]
+
+-- ---- the round trip
 
 module _ (pool : List ℕ) (D : Dictionary) (lawful : Lawful D) where
   -- the run s, whose tree is t, wherever it stands
@@ -34,67 +57,66 @@ module _ (pool : List ℕ) (D : Dictionary) (lawful : Lawful D) where
     abbrev a : List ℕ
     a = item (avps D) s
 
+    abbrev x : List ℕ
+    x = after (avps D) s
+
     abbrev inner : Tree
     inner = tree (avps D) (payload a)
 
     abbrev rest : Tree
-    rest = tree (avps D) (after (avps D) s)
+    rest = tree (avps D) x
 
-    trips-node : (b : Bool) → avps D .nested a ≡ b → Trips (payload a) inner → Trips (after (avps D) s) rest → Trips s (node true b a inner rest)
-    unfolding groupValue
-    trips-node b nested hi hr place depth low deep bytes within holds tiled = by b nested deep tiled
-      where
-        exact : Exact a
-        exact = item-exact D s whole
+    exact : Exact a
+    exact = item-exact D s whole
 
-        all-held : Holds pool place (a ++ after (avps D) s)
-        all-held = rw (p .whole) holds
+    module _ (inside : Trips (payload a) inner) (behind : Trips x rest) (place depth : ℕ) (low : 1 ≤ depth) (bytes : Bytes s)
+        (within : place + length s < 256 ^ 4) (holds : Holds pool place s) where
+      both : Holds pool place (a ++ x)
+      both = rw (p .whole) holds
 
-        held : Holds pool place a
-        held = holds-front pool place a (after (avps D) s) all-held
+      held : Holds pool place a
+      held = holds-front pool place a x both
 
-        follows : depth + deepest rest ≤ 65 → tiles rest ≡ true → Trip pool depth (after (avps D) s) (forestOf D (place + length a) depth rest)
-        follows d t =
-            hr (place + length a) depth low d (bytes-after D s bytes) (omega arith) (holds-behind pool place a (after (avps D) s) all-held) t
+      members : depth + 1 + deepest inner ≤ 65 → tiles inner ≡ true
+          → Trip pool (depth + 1) (payload a) (forestOf D (place + headSize (flags a)) (depth + 1) inner)
+      members d t =
+          let w = complete-whole a (exact .whole) in
+          let z = sizes a in
+          let l = payload-length a w in
+          inside (place + headSize (flags a)) (depth + 1) (omega arith) d (bytes-payload a (bytes-item D s bytes)) (omega (arith, exact .size-is))
+          (payload-held pool place a exact held) t
 
-        within-a : place + length a < 256 ^ 4
-        within-a = omega arith
+      module _ (deep : depth + deepest rest ≤ 65) (high : depth ≤ 64) (tiled : tiles rest ≡ true) where
+        follows : Trip pool depth x (forestOf D (place + length a) depth rest)
+        follows = behind (place + length a) depth low deep (bytes-after D s bytes) (omega arith) (holds-behind pool place a x both) tiled
 
-        members : depth + 1 + deepest inner ≤ 65 → tiles inner ≡ true
-            → Trip pool (depth + 1) (payload a) (forestOf D (place + headSize (flags a)) (depth + 1) inner)
-        members d t =
-            let w = complete-whole a (exact .whole) in
-            let z = sizes a in
-            let l = payload-length a w in
-            hi (place + headSize (flags a)) (depth + 1) (omega arith) d (bytes-payload a (bytes-item D s bytes)) (omega (arith, exact .size-is)) (payload-held pool place a exact held) t
+        as-leaf : (v : Value) → Ungrouped v → Trip pool depth (a ++ x) (table.node (own place depth a v) none (forestOf D (place + length a) depth rest))
+        as-leaf v u = trip-leaf pool place depth a exact (bytes-item D s bytes) held (omega arith) low high v _ x u follows
 
-        by-inner : (t : Bool) → tiles inner ≡ t → depth + deepest (group a inner rest) ≤ 65 → tiles rest ≡ true
-            → Trip pool depth (a ++ after (avps D) s) (forestOf D place depth (group a inner rest))
-        by-inner true e d t =
-            rw e
-            (trip-group pool place depth a exact (bytes-item D s bytes) held within-a low (omega arith) (errors D inner) _ _ (after (avps D) s)
-            (members (omega arith) e) (follows (omega arith) t))
-        by-inner false e d t =
-            rw e
-            (trip-leaf pool place depth a exact (bytes-item D s bytes) held within-a low (omega arith) _ _ (after (avps D) s)
-            (record { low = omega arith; other = refl }) (follows (omega arith) t))
-
-        by : (c : Bool) → avps D .nested a ≡ c → depth + deepest (node true c a inner rest) ≤ 65 → tiles (node true c a inner rest) ≡ true
-            → Trip pool depth s (forestOf D place depth (node true c a inner rest))
-        by true e d t = rw (p .whole) at (by-inner (tiles inner) refl d t)
-        by false e d t =
-            rw (p .whole) at
-            (trip-leaf pool place depth a exact (bytes-item D s bytes) held within-a low (omega arith) (valueOf D a) _ (after (avps D) s)
-            (value-leaf D lawful a e) (follows (omega arith) t))
+      trips-node : (b : Bool) → avps D .nested a ≡ b → depth + deepest (node true b a inner rest) ≤ 65 → tiles (node true b a inner rest) ≡ true
+          → Trip pool depth (a ++ x) (forestOf D place depth (node true b a inner rest))
+      unfolding groupValue
+      trips-node false e d t = as-leaf (omega arith) (omega arith) t (valueOf D a) (value-leaf D lawful a e)
+      trips-node true e d t =
+          elim (decide (tiles inner)) [
+            | inl f ↦
+                rw f
+                (trip-group pool place depth a exact (bytes-item D s bytes) held (omega arith) low (omega arith) (errors D inner) _ _ x
+                (members (omega arith) f) (follows (omega arith) (omega arith) t))
+            | inr f ↦ rw f (as-leaf (omega arith) (omega arith) t _ (record { low = omega arith; other = refl }))
+          ]
 
   pub trips : (s : List ℕ) → Trips s (tree (avps D) s)
   trips =
       by-run (avps D) (sound (avps D .nested)) (λ (s : List ℕ). Trips s (tree (avps D) s))
       (λ place depth low deep bytes within holds tiled. rw tree-none (record { sound-is = Sound.no-more; fits = tt; is = refl }))
-      (λ s pos h. rw (tree-step (avps D) (sound (avps D .nested)) s pos) (by s (complete s) refl h))
-    where
-      by : (s : List ℕ) (c : Bool) → complete s ≡ c
-          → (complete s ≡ true → Parts (avps D) s × Trips (payload (item (avps D) s)) (tree (avps D) (payload (item (avps D) s))) × Trips (after (avps D) s) (tree (avps D) (after (avps D) s)))
-          → Trips s (node c (avps D .nested (item (avps D) s)) (item (avps D) s) (tree (avps D) (payload (item (avps D) s))) (tree (avps D) (after (avps D) s)))
-      by s false e h = λ place depth low deep bytes within holds tiled. absurd (false-true tiled)
-      by s true e h = let k = h e in trips-node s e (k .0) (avps D .nested (item (avps D) s)) refl (k .1) (k .2)
+      (λ s pos h place depth low.
+      rw (tree-step (avps D) (sound (avps D .nested)) s pos)
+      (λ deep bytes within holds tiled.
+      elim (decide (complete s)) [
+        | inl e ↦
+            let k = h e in
+            let t = trips-node s e (k .0) (k .1) (k .2) place depth low bytes within holds (avps D .nested (item (avps D) s)) refl in
+            rw e (rw (k .0 .whole) at (t (rw e at deep) (rw e at tiled)))
+        | inr e ↦ absurd (false-true (rw e at tiled))
+      ]))

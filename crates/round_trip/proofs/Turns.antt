@@ -2,7 +2,7 @@
 -- the table after them.
 -- Assumes nothing.
 use Prim.Native.Nat.{ℕ, suc, _+_, _*_, _≤_, _<_}
-use mathlib.Core.Path.{_≡_, refl, ap, ap₂, _∙_}
+use mathlib.Core.Path.{_≡_, refl, ap}
 use mathlib.Core.Bool.{true, false}
 use mathlib.Core.List.{List, [], _∷_}
 use native.Mathlib.Omega.{arith}
@@ -15,9 +15,9 @@ use Rattle.rfc6733.specs.Writer.{isGroup, allowedAfter}
 use Rattle.round_trip.specs.Forests.{count}
 use Rattle.round_trip.specs.Rules.{Good, Valid}
 use Rattle.round_trip.specs.Tables.{run, one}
-use Rattle.round_trip.proofs.Rules.{keeps-good}
+use Rattle.round_trip.proofs.Rules.{keeps-good, after-group, after-leaf}
 use Rattle.round_trip.proofs.Shape.{flat-forest, count-flat}
-use Rattle.round_trip.proofs.Tails.{leading-fewer, forest-tail, valid-tail}
+use Rattle.round_trip.proofs.Kept.{leading-fewer, forest-tail, valid-tail}
 use Rattle.round_trip.proofs.Tables.{table-none, table-some, table-drop, table-length}
 
 -- ---- where a run ends: the table ends, or goes on above it
@@ -28,7 +28,7 @@ run-end d s h = rw (table-none s h)
 
 pub run-above : (d : ℕ) (s : List ℕ) → recordSize ≤ length s → entryAt s .depth < d → run d s ≡ none
 unfolding run
-run-above d s h e = rw (table-some s h) (rw (lt-leb d (entryAt s .depth) e))
+run-above d s h e = rw (table-some s h, lt-leb d (entryAt s .depth) e)
 
 -- nothing is deeper than what is allowed
 pub none-deeper : (d n : ℕ) (s : List ℕ) → Valid d n (tableOf s) → run (d + 1) s ≡ none
@@ -58,11 +58,11 @@ module _ (d : ℕ) (s : List ℕ) (some : recordSize ≤ length s) (level : entr
 
   one-at : one s ≡ node (entryAt s) (run (d + 1) (drop recordSize s)) none
   unfolding one run
-  one-at = rw (table-some s some) (rw level)
+  one-at = rw (table-some s some, level)
 
   count-one : count (one s) ≡ suc (count (leading (d + 1) (forest others)))
   unfolding run
-  count-one = ap count one-at ∙ omega arith
+  count-one = rw one-at (omega arith)
 
   one-fits : count (one s) * recordSize ≤ length s
   one-fits =
@@ -78,19 +78,11 @@ module _ (d : ℕ) (s : List ℕ) (some : recordSize ≤ length s) (level : entr
 
   -- the table after the first record and its members
   rest-is : tableOf (drop (count (one s) * recordSize) s) ≡ drop (count (leading (d + 1) (forest others))) others
-  rest-is = table-drop (count (one s)) s one-fits ∙ ap₂ (λ (k : ℕ) (l : List Record). drop k l) count-one (table-some s some)
+  rest-is = rw (table-drop (count (one s)) s one-fits, count-one, table-some s some)
 
   run-at : run d s ≡ node (entryAt s) (run (d + 1) (drop recordSize s)) (run d (drop (count (one s) * recordSize) s))
   unfolding run
   run-at = rw (table-some s some, level, le-leb d d (omega arith), rest-is, forest-tail (d + 1) others)
-
-pub after-group : (r : Record) → isGroup r ≡ true → allowedAfter r ≡ r .depth + 1
-unfolding allowedAfter
-after-group r e = rw e
-
-pub after-leaf : (r : Record) → isGroup r ≡ false → allowedAfter r ≡ r .depth
-unfolding allowedAfter
-after-leaf r e = rw e
 
 pub turn : (d n : ℕ) (s : List ℕ) → recordSize ≤ length s → Valid d n (tableOf s) → d ≤ entryAt s .depth
     → Turn d n s (drop (count (one s) * recordSize) s)

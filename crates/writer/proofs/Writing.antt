@@ -20,7 +20,7 @@ use Rattle.record.specs.Table.{tableOf}
 use Rattle.round_trip.specs.Forests.{size}
 use Rattle.round_trip.specs.Rules.{Valid, Kept}
 use Rattle.round_trip.specs.Tables.{run}
-use Rattle.round_trip.proofs.Keepers.{keepers-valid, keepers-most}
+use Rattle.round_trip.proofs.Rules.{keepers-valid, keepers-most}
 use Rattle.round_trip.proofs.Kept.{valid-kept}
 use Rattle.round_trip.proofs.Lengths.{long, total-size}
 use Rattle.round_trip.proofs.Tables.{table-length}
