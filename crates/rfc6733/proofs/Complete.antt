@@ -8,7 +8,7 @@ use mathlib.Core.List.{List}
 use native.Mathlib.Omega.{arith}
 use lib.ListN.{length}
 use Rattle.flags.specs.Flags.{bit}
-use Rattle.rfc6733.specs.Avp.{flags, avpLength, vendorBit, headSize, dataSize, padding, avpSize, avpRefusals, complete}
+use Rattle.rfc6733.specs.Avp.{flags, avpLength, vendorBit, headSize, dataSize, padding, avpSize, avpRefusals, complete, Exact}
 use Rattle.rfc6733.proofs.Tests.{tests}
 
 -- a header is two or three words
@@ -50,6 +50,10 @@ sizes s = let p = padding-few (dataSize s) in record { padding-is = refl; few = 
 pub complete-whole : (s : List ℕ) → complete s ≡ true → Whole s
 unfolding complete avpRefusals
 complete-whole s e = let h = simp tests at e in search
+
+-- all of this of an AVP's own bytes
+pub exact-sizes : (a : List ℕ) → Exact a → Whole a × Sizes a × Head (flags a)
+exact-sizes a e = (complete-whole a (e .whole), sizes a, head (flags a))
 
 pub whole-complete : (s : List ℕ) → Whole s → complete s ≡ true
 unfolding complete avpRefusals

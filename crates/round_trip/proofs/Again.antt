@@ -2,7 +2,7 @@
 -- and the padding is held as a number. The record keeps the rules, and its numbers fit.
 -- Assumes nothing.
 use Prim.Native.Nat.{ℕ, _+_, _-_, _%_, _^_, _≤_, _<_}
-use mathlib.Core.Path.{_≡_, refl, ap, _∙_}
+use mathlib.Core.Path.{_≡_, refl}
 use mathlib.Core.Bool.{true, false}
 use mathlib.Core.Logic.{inl, inr}
 use mathlib.Core.List.{List, [], _∷_, _++_}
@@ -21,7 +21,7 @@ use Rattle.record.specs.Record.{Record}
 use Rattle.rfc6733.specs.Records.{recordOf}
 use Rattle.record.specs.Table.{bare}
 use Rattle.rfc6733.specs.Writer.{headOf, statedData, avpBytes, headFields, padBytes}
-use Rattle.rfc6733.proofs.Complete.{head, sizes, complete-whole}
+use Rattle.rfc6733.proofs.Complete.{sizes, exact-sizes}
 use Rattle.rfc6733.proofs.Tests.{decide}
 use Rattle.rfc6733.proofs.Items.{payload-length}
 use Rattle.round_trip.specs.Rules.{Good}
@@ -57,13 +57,12 @@ module _ (place depth : ℕ) (a : List ℕ) (v : Value) where
 
   module _ (exact : Exact a) (bytes : Bytes a) where
     pads-length : length (padsAt a) ≡ padding (dataSize a)
-    pads-length = omega (arith, length-drop (avpLength a) a, sizes a, exact .size-is)
+    pads-length = omega (arith, length-drop (avpLength a) a, sizes a)
 
     header-again : pack (headFields own (avpLength a)) ≡ take (headSize (flags a)) a
     unfolding bare recordOf headSize vendor
     header-again =
-        let w = complete-whole a (exact .whole) in
-        let z = sizes a in
+        let z = exact-sizes a exact in
         let there : headSize (flags a) ≤ length a = omega arith in
         elim (decide (bit vendorBit (flags a))) [
           | inl e ↦ rw e (pack-unpack (4 ∷ 1 ∷ 3 ∷ 4 ∷ []) a 0 (rw e at there) bytes)
@@ -77,10 +76,9 @@ module _ (place depth : ℕ) (a : List ℕ) (v : Value) where
     pub avp-again : (body : List ℕ) → body ≡ payload a → avpBytes own body ≡ a
     unfolding avpBytes payload
     avp-again body e =
-        let w = complete-whole a (exact .whole) in
-        let z = sizes a in
+        let z = exact-sizes a exact in
         let h = own-head in
-        let l : length body ≡ dataSize a = ap length e ∙ payload-length a w in
+        let l : length body ≡ dataSize a = rw e (payload-length a (z .0)) in
         let n : headOf own + length body ≡ avpLength a = omega arith in
         let at : avpLength a ≡ headSize (flags a) + dataSize a = omega arith in
         rw (n, e, header-again, pads-again, at) (three (headSize (flags a)) (dataSize a) a)
@@ -101,8 +99,7 @@ module _ (place depth : ℕ) (a : List ℕ) (v : Value) where
         → (eqb (v .kind) grouped ≡ true → dataSize a % 4 ≡ 0) → Good depth n own
     unfolding bare recordOf statedData headOf dataSize
     own-good n low high kind within words =
-        let w = complete-whole a (exact .whole) in
-        let z = sizes a in
+        let z = exact-sizes a exact in
         record {
           some = low;
           most = high;
@@ -110,15 +107,13 @@ module _ (place depth : ℕ) (a : List ℕ) (v : Value) where
           kinds = kind;
           no-vendor = no-vendor;
           group = λ e. let p = no-padding (dataSize a) (words e) in record { padding-is = p; pads-are = no-pads p };
-          leaf = λ e. record { long = w .long; within = omega (arith, exact .size-is); padding-is = refl; unused = unused };
+          leaf = λ e. record { long = z .0 .long; within = omega arith; padding-is = refl; unused = unused };
         }
 
     pub own-fits : place + length a < 256 ^ 4 → depth ≤ 64 → v .kind ≤ time → Fits own
     unfolding bare recordOf pads
     own-fits within high kind =
-        let w = complete-whole a (exact .whole) in
-        let z = sizes a in
-        let h = head (flags a) in
-        let place-fits : place + headSize (flags a) < 256 ^ 4 = omega (arith, exact .size-is) in
+        let z = exact-sizes a exact in
+        let place-fits : place + headSize (flags a) < 256 ^ 4 = omega arith in
         let pads-fit = be-small 3 (padsAt a) 0 (bytes-drop (avpLength a) a bytes) in
         (be-small 4 a 0 bytes, (be-small 1 a 4 bytes, (be-small 3 a 5 bytes, (vendor-small bytes, (place-fits, (omega arith, (omega arith, (omega arith, (omega arith, (pads-fit, (omega arith, (omega arith, tt))))))))))))

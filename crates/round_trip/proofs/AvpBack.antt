@@ -2,14 +2,14 @@
 -- flags, vendor, data and padding, since each field is read where it was packed.
 -- Assumes nothing.
 use Prim.Native.Nat.{ℕ, _+_, _-_, _%_, _^_, _<_}
-use mathlib.Core.Path.{_≡_, refl, sym, ap, ap₂, _∙_}
-use mathlib.Core.Bool.{Bool, true, false, cond}
+use mathlib.Core.Path.{_≡_, refl, sym, ap}
+use mathlib.Core.Logic.{inl, inr}
 use mathlib.Core.List.{List, [], _∷_, _++_}
 use native.Mathlib.Nat.{zero-mod}
 use native.Mathlib.Omega.{arith}
 use lib.ListN.{length, getD, take, drop}
 use lib.Seq.{take-at, drop-at, drop-drop}
-use Rattle.octets.specs.Octets.{be, Field, field, pack}
+use Rattle.octets.specs.Octets.{Field, field, pack}
 use Rattle.octets.proofs.Layouts.{fit-at}
 use Rattle.flags.specs.Flags.{bit}
 use Rattle.rfc6733.specs.Avp.{code, flags, avpLength, vendorBit, headSize, vendor, dataSize, padding, payload, pads, Exact}
@@ -17,6 +17,7 @@ use Rattle.record.specs.Record.{Record, recordLayout}
 use Rattle.record.specs.Table.{bare}
 use Rattle.rfc6733.specs.Writer.{isGroup, headOf, avpBytes, headFields, padBytes}
 use Rattle.rfc6733.proofs.Complete.{sizes, whole-complete}
+use Rattle.rfc6733.proofs.Tests.{decide}
 use Rattle.round_trip.specs.Rules.{Good}
 use Rattle.round_trip.specs.Tables.{Fits}
 use Rattle.round_trip.specs.Tops.{topOf, topRecord}
@@ -28,18 +29,13 @@ use Rattle.round_trip.proofs.Pads.{pads-read}
 apart : (h n : ℕ) (a b c : List ℕ) → length a ≡ h → length b ≡ n
     → (take n (drop h (a ++ (b ++ c))) ≡ b) × (drop (h + n) (a ++ (b ++ c)) ≡ c)
 apart h n a b c ea eb =
-    let front : drop h (a ++ (b ++ c)) ≡ b ++ c = drop-at a (b ++ c) h ea in (
-      ap (take n) front ∙ take-at b c n eb,
-      sym (drop-drop n h (a ++ (b ++ c))) ∙ ap (drop n) front ∙ drop-at b c n eb,
-    )
+    let front = drop-at a (b ++ c) h ea in
+    (rw front (take-at b c n eb), rw (← drop-drop n h (a ++ (b ++ c)), front) (drop-at b c n eb))
 
 -- a group's padding bytes are 0, and so are the unused ones of another
 unused-pads : (allowed n : ℕ) (r : Record) → Good allowed n r → r .pads % 256 ^ (3 - r .padding) ≡ 0
-unused-pads allowed n r g = by (isGroup r) refl
-  where
-    by : (b : Bool) → isGroup r ≡ b → r .pads % 256 ^ (3 - r .padding) ≡ 0
-    by true e = ap (λ (x : ℕ). x % 256 ^ (3 - r .padding)) (g .group e .pads-are) ∙ zero-mod _
-    by false e = g .leaf e .unused
+unused-pads allowed n r g =
+    elim (decide (isGroup r)) [ inl e ↦ rw (g .group e .pads-are) (zero-mod _) | inr e ↦ g .leaf e .unused ]
 
 module _ (allowed most : ℕ) (r : Record) (inside : List ℕ) (good : Good allowed most r) (fits : Fits r) (padded : Padded r (length inside))
     (short : headOf r + length inside < 256 ^ 3) where
@@ -73,21 +69,20 @@ module _ (allowed most : ℕ) (r : Record) (inside : List ℕ) (good : Good allo
 
   vendor-back : vendor own ≡ r .vendor
   unfolding avpBytes vendor bare
-  vendor-back = ap (λ (x : ℕ). cond (bit vendorBit x) (be 4 own 8) 0) flags-back ∙ by (bit vendorBit (r .flags)) refl
-    where
-      by : (b : Bool) → bit vendorBit (r .flags) ≡ b
-          → cond b (be 4 (pack (field 4 (r .code) ∷ field 1 (r .flags) ∷ field 3 n ∷ cond b (field 4 (r .vendor) ∷ []) []) ++ more) 8) 0 ≡ r .vendor
-      by true e =
-          let three = field 4 (r .code) ∷ field 1 (r .flags) ∷ field 3 n ∷ [] in
-          field-back (three ++ (field 4 (r .vendor) ∷ [])) three 4 (r .vendor) [] more refl (fit 3)
-      by false e = sym (good .no-vendor e)
+  vendor-back =
+      let three = field 4 (r .code) ∷ field 1 (r .flags) ∷ field 3 n ∷ [] in
+      rw flags-back
+      (elim (decide (bit vendorBit (r .flags))) [
+        | inl e ↦ rw e (field-back (three ++ (field 4 (r .vendor) ∷ [])) three 4 (r .vendor) [] more refl (fit 3))
+        | inr e ↦ rw e (sym (good .no-vendor e))
+      ])
 
   head-back : headSize (flags own) ≡ headOf r
   unfolding headOf
   head-back = ap headSize flags-back
 
   data-back : dataSize own ≡ length inside
-  data-back = let h = head-back in let l = length-back in let z = sizes own in omega arith
+  data-back = omega (arith, head-back, length-back, sizes own)
 
   parts : (take (length inside) (drop (headOf r) own) ≡ inside) × (drop n own ≡ padBytes r)
   unfolding avpBytes
@@ -95,16 +90,14 @@ module _ (allowed most : ℕ) (r : Record) (inside : List ℕ) (good : Good allo
 
   payload-back : payload own ≡ inside
   unfolding payload
-  payload-back = ap₂ (λ (x y : ℕ). take x (drop y own)) data-back head-back ∙ parts .0
+  payload-back = rw (data-back, head-back) (parts .0)
 
   padding-back : padding (dataSize own) ≡ r .padding
-  padding-back = ap padding data-back ∙ sym (padded .is)
+  padding-back = rw data-back (sym (padded .is))
 
   pads-back : pads own ≡ r .pads
   unfolding pads bare
-  pads-back =
-      ap (λ (s : List ℕ). be 3 s 0) (ap (λ (x : ℕ). drop x own) length-back ∙ parts .1)
-      ∙ pads-read (r .padding) (r .pads) (padded .few) (fit 9) (unused-pads allowed most r good)
+  pads-back = rw (length-back, parts .1) (pads-read (r .padding) (r .pads) (padded .few) (fit 9) (unused-pads allowed most r good))
 
   pub exact-back : Exact own
   exact-back =

@@ -19,10 +19,9 @@ use Rattle.record.specs.Forest.{Forest, none, flat}
 use Rattle.rfc6733.specs.Writer.{headOf, statedData, forestBytes, bodyOf}
 use Rattle.rfc6733.specs.Records.{recordOf}
 use Rattle.record.specs.Table.{bare}
-use Rattle.rfc6733.proofs.Complete.{head, sizes, complete-whole}
+use Rattle.rfc6733.proofs.Complete.{exact-sizes}
 use Rattle.rfc6733.proofs.Tests.{decide}
 use Rattle.rfc6733.proofs.Items.{payload-length}
-use Rattle.round_trip.specs.Forests.{size}
 use Rattle.round_trip.specs.Tables.{AllFit}
 use Rattle.round_trip.specs.Trip.{Ungrouped}
 use Rattle.round_trip.proofs.Rules.{good-keeps}
@@ -41,53 +40,54 @@ pub record Trip (pool : List ℕ) (depth : ℕ) (s : List ℕ) (f : Forest) : Ty
 pub payload-held : (pool : List ℕ) (place : ℕ) (a : List ℕ) → Exact a → Holds pool place a → Holds pool (place + headSize (flags a)) (payload a)
 unfolding payload
 payload-held pool place a exact holds =
-    let w = complete-whole a (exact .whole) in
-    let z = sizes a in
-    holds-part pool place a (headSize (flags a)) (dataSize a) (omega (arith, exact .size-is)) holds
+    let z = exact-sizes a exact in
+    holds-part pool place a (headSize (flags a)) (dataSize a) (omega arith) holds
 
 module _ (pool : List ℕ) (place depth : ℕ) (a : List ℕ) (exact : Exact a) (bytes : Bytes a) (holds : Holds pool place a)
     (within : place + length a < 256 ^ 4) (low : 1 ≤ depth) (high : depth ≤ 64) where
-  some : 0 < length a
-  some = omega (arith, exact .size-is, sizes a, complete-whole a (exact .whole), head (flags a))
-
-  module _ (v : Value) (members rest : Forest) (x : List ℕ) (kind : v .kind ≤ time)
-      (words : eqb (v .kind) grouped ≡ true → dataSize a % 4 ≡ 0)
-      (inside : eqb (v .kind) grouped ≡ true → forestBytes pool members ≡ payload a)
-      (no-members : eqb (v .kind) grouped ≡ false → members ≡ none) where
-    body-again : bodyOf pool (own place depth a v) (forestBytes pool members) ≡ payload a
-    unfolding bare recordOf statedData headOf dataSize
-    body-again =
-        elim (decide (eqb (v .kind) grouped)) [
-          | inl e ↦ rw e (inside e)
-          | inr e ↦ rw e (holds-data pool _ _ (payload a) (payload-length a (complete-whole a (exact .whole))) (payload-held pool place a exact holds))
-        ]
-
-    trip-one : Sound (length pool) (depth + 1) members → AllFit (flat members) → Trip pool depth x rest
-        → Trip pool depth (a ++ x) (table.node (own place depth a v) members rest)
-    unfolding bare recordOf
-    trip-one s f r =
-        let g = own-good place depth a v exact bytes (length pool) low high kind (holds-fits pool place a some holds) words in
-        record {
-          sound-is = Sound.more (good-keeps depth (length pool) (own place depth a v) g) refl no-members s (r .sound-is);
-          fits = (own-fits place depth a v exact bytes within high kind, both-fit (flat members) (flat rest) f (r .fits));
-          is = rw (avp-again place depth a v exact bytes _ body-again, r .is);
-        }
-
-  pub trip-leaf : (v : Value) (rest : Forest) (x : List ℕ) → Ungrouped v → Trip pool depth x rest
-      → Trip pool depth (a ++ x) (table.node (own place depth a v) none rest)
-  trip-leaf v rest x u r =
-      trip-one v none rest x (u .low) (λ e. absurd (false-true (sym (u .other) ∙ e))) (λ e. absurd (false-true (sym (u .other) ∙ e)))
-      (λ e. refl) Sound.no-more tt r
+  data-length : length (payload a) ≡ dataSize a
+  data-length = payload-length a (exact-sizes a exact .0)
 
   -- its members are whole words
   member-words : (members : Forest) → Trip pool (depth + 1) (payload a) members → dataSize a % 4 ≡ 0
   member-words members m =
       let l = long pool members (sound-kept (length pool) (depth + 1) members (m .sound-is)) in
-      let e : dataSize a ≡ size members = cc (payload-length a (complete-whole a (exact .whole)), ap length (m .is)) in
-      rw e (l .words)
+      omega (arith, data-length, ap length (m .is))
+
+  -- its record points at its data, and has members only as a group
+  module _ (v : Value) (members rest : Forest) (x : List ℕ) (kind : v .kind ≤ time)
+      (inside : eqb (v .kind) grouped ≡ true → Trip pool (depth + 1) (payload a) members)
+      (outside : eqb (v .kind) grouped ≡ false → members ≡ none) where
+    body-again : bodyOf pool (own place depth a v) (forestBytes pool members) ≡ payload a
+    unfolding bare recordOf statedData headOf dataSize
+    body-again =
+        elim (decide (eqb (v .kind) grouped)) [
+          | inl e ↦ rw e (inside e .is)
+          | inr e ↦ rw e (holds-data pool _ _ (payload a) data-length (payload-held pool place a exact holds))
+        ]
+
+    members-good : Sound (length pool) (depth + 1) members × AllFit (flat members)
+    members-good =
+        elim (decide (eqb (v .kind) grouped)) [
+          | inl e ↦ (inside e .sound-is, inside e .fits)
+          | inr e ↦ rw (outside e) (Sound.no-more, tt)
+        ]
+
+    trip-one : Trip pool depth x rest → Trip pool depth (a ++ x) (table.node (own place depth a v) members rest)
+    unfolding bare recordOf
+    trip-one r =
+        let all = holds-fits pool place a (omega (arith, exact-sizes a exact)) holds in
+        let g = own-good place depth a v exact bytes (length pool) low high kind all (λ e. member-words members (inside e)) in
+        record {
+          sound-is = Sound.more (good-keeps depth (length pool) (own place depth a v) g) refl outside (members-good .0) (r .sound-is);
+          fits = (own-fits place depth a v exact bytes within high kind, both-fit (flat members) (flat rest) (members-good .1) (r .fits));
+          is = rw (avp-again place depth a v exact bytes _ body-again, r .is);
+        }
+
+  pub trip-leaf : (v : Value) (rest : Forest) (x : List ℕ) → Ungrouped v → Trip pool depth x rest
+      → Trip pool depth (a ++ x) (table.node (own place depth a v) none rest)
+  trip-leaf v rest x u = trip-one v none rest x (u .low) (λ e. absurd (false-true (sym (u .other) ∙ e))) (λ e. refl)
 
   pub trip-group : (e : ℕ) (members rest : Forest) (x : List ℕ) → Trip pool (depth + 1) (payload a) members → Trip pool depth x rest
       → Trip pool depth (a ++ x) (table.node (own place depth a (value grouped e 0)) members rest)
-  trip-group e members rest x m r =
-      trip-one (value grouped e 0) members rest x (omega arith) (λ y. member-words members m) (λ y. m .is)
-      (λ y. absurd (false-true (sym y))) (m .sound-is) (m .fits) r
+  trip-group e members rest x m = trip-one (value grouped e 0) members rest x (omega arith) (λ y. m) (λ y. absurd (false-true (sym y)))

@@ -21,24 +21,17 @@ use Rattle.round_trip.proofs.Rules.{keeps-good, good-at, keeps-at}
 
 -- ---- kept
 
-kept-leading : (n d : ℕ) (f : Forest) → Kept n f → Kept n (leading d f)
-kept-leading n d none k = tt
-kept-leading n d (node r i t) k =
-    elim (decide (leb d (r .depth))) [ inl e ↦ rw e (k .0, k .1, kept-leading n d t (k .2)) | inr e ↦ rw e tt ]
-
-kept-following : (n d : ℕ) (f : Forest) → Kept n f → Kept n (following d f)
-kept-following n d none k = tt
-kept-following n d (node r i t) k =
-    elim (decide (leb d (r .depth))) [ inl e ↦ rw e (kept-following n d t (k .2)) | inr e ↦ rw e k ]
+kept-parts : (n d : ℕ) (f : Forest) → Kept n f → Kept n (leading d f) × Kept n (following d f)
+kept-parts n d none k = (tt, tt)
+kept-parts n d (node r i t) k =
+    let (l, f) = kept-parts n d t (k .2) in
+    elim (decide (leb d (r .depth))) [ inl e ↦ rw e ((k .0, k .1, l), f) | inr e ↦ rw e (tt, k) ]
 
 pub valid-kept : (allowed n : ℕ) (rs : List Record) → Valid allowed n rs → Kept n (forest rs)
 valid-kept allowed n [] v = tt
 valid-kept allowed n (r ∷ rs) v =
-    let k = valid-kept (allowedAfter r) n rs (v .1) in (
-      good-at allowed (r .depth) n r (omega arith) (keeps-good allowed n r (v .0)),
-      kept-leading n (r .depth + 1) (forest rs) k,
-      kept-following n (r .depth + 1) (forest rs) k,
-    )
+    let (l, f) = kept-parts n (r .depth + 1) (forest rs) (valid-kept (allowedAfter r) n rs (v .1)) in
+    (good-at allowed (r .depth) n r (omega arith) (keeps-good allowed n r (v .0)), l, f)
 
 -- ---- the parts of a forest at two depths
 
@@ -57,12 +50,6 @@ count-following d e (node r i t) h =
       | inl x ↦ rw (x, le-leb d (r .depth) (omega (arith, leb-true))) (omega (arith, count-following d e t h))
       | inr x ↦ rw x (omega arith)
     ]
-
-pub leading-fewer : (e : ℕ) (f : Forest) → count (leading e f) ≤ count f
-leading-fewer e none = omega arith
-leading-fewer e (node r i t) =
-    let h = leading-fewer e t in
-    elim (decide (leb e (r .depth))) [ inl x ↦ rw x (omega arith) | inr x ↦ rw x (omega arith) ]
 
 -- ---- past a part of the forest
 

@@ -3,17 +3,19 @@
 -- Assumes nothing.
 use Prim.Native.Nat.{ℕ, _≤_}
 use mathlib.Core.Path.{_≡_, refl}
-use mathlib.Core.Bool.{Bool, true, false, cond, _&&_}
+use mathlib.Core.Bool.{Bool, true, false, _&&_}
+use mathlib.Core.Logic.{inl, inr}
 use mathlib.Core.List.{List, [], _∷_}
 use native.Mathlib.Omega.{arith}
 use lib.Dec.{leb, eqb}
 use borrow.Author.Tests.{leb-true}
 use Rattle.rfc6733.specs.Avp.{payload}
 use Rattle.rfc6733.specs.Value.{Value}
-use Rattle.record.specs.Kinds.{unhandled, grouped, time}
+use Rattle.record.specs.Kinds.{grouped, time}
 use Rattle.rfc6733.specs.Dictionary.{Dictionary, Row, kindIn, baseAvps, sawpAvps, rfc, sawp}
 use Rattle.rfc6733.specs.Records.{avpKind, valueOf}
 use Rattle.refusal.proofs.Answers.{and-true}
+use Rattle.rfc6733.proofs.Tests.{decide}
 use Rattle.rfc6733.proofs.KindsRead.{Kind, kind-read, bare-kind, family-kind}
 use Rattle.round_trip.specs.Trip.{Ungrouped, Lawful}
 
@@ -42,12 +44,8 @@ known (r ∷ rs) = leb (r .kind) time && known rs
 kind-known : (rs : List Row) (c : ℕ) → known rs ≡ true → kindIn rs c ≤ time
 kind-known [] c e = omega arith
 kind-known (r ∷ rs) c e =
-    let both = and-true (leb (r .kind) time) (known rs) e in
-    by (eqb c (r .code)) (leb-true (r .kind) time (both .0)) (kind-known rs c (both .1))
-  where
-    by : (b : Bool) → r .kind ≤ time → kindIn rs c ≤ time → cond b (r .kind) (kindIn rs c) ≤ time
-    by true h k = h
-    by false h k = k
+    let (low, rest) = and-true (leb (r .kind) time) (known rs) e in
+    elim (decide (eqb c (r .code))) [ inl x ↦ rw x (leb-true (r .kind) time low) | inr x ↦ rw x (kind-known rs c rest) ]
 
 pub sawp-lawful : Lawful sawp
 unfolding sawp
@@ -55,8 +53,8 @@ sawp-lawful = record { kinds = λ c v. kind-known sawpAvps c refl; addresses = �
 
 pub rfc-lawful : Lawful rfc
 unfolding rfc
-rfc-lawful = record { kinds = λ c v. by c (eqb v 0); addresses = λ s. ungrouped (family-kind Leaf (omega arith, refl) (omega arith, refl) s) }
-  where
-    by : (c : ℕ) (b : Bool) → cond b (kindIn baseAvps c) unhandled ≤ time
-    by c true = kind-known baseAvps c refl
-    by c false = omega arith
+rfc-lawful =
+    record {
+      kinds = λ c v. elim (decide (eqb v 0)) [ inl x ↦ rw x (kind-known baseAvps c refl) | inr x ↦ rw x (omega arith) ];
+      addresses = λ s. ungrouped (family-kind Leaf (omega arith, refl) (omega arith, refl) s);
+    }

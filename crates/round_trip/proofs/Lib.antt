@@ -6,7 +6,6 @@ pub mod Tables
 pub mod Turns
 pub mod Packed
 pub mod Pads
-pub mod Headers
 pub mod Again
 pub mod LeafKinds
 pub mod AvpTrip
@@ -14,6 +13,5 @@ pub mod RunTrip
 pub mod Written
 pub mod RoundTrip
 pub mod AvpBack
-pub mod ForestBack
 pub mod ReadBack
 pub mod Whole

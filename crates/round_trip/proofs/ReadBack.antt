@@ -1,32 +1,97 @@
 -- What the writer wrote, read by the definition: it tiles, with the same codes, flags, vendors, data and padding at the top level as
--- the table's records of depth 1, a group's data being its members' bytes. The table's records keep the rules, so `ForestBack` reads them.
+-- the table's records of depth 1, a group's data being its members' bytes. A forest that keeps the rules is read as a run of its AVPs,
+-- whichever of them the dictionary enters: the first is read back, and what follows it is the bytes of the rest.
 -- Assumes nothing.
-use Prim.Native.Nat.{ℕ}
-use mathlib.Core.Path.{_≡_, sym, ap, _∙_}
+use Prim.Native.Nat.{ℕ, _^_, _<_}
+use mathlib.Core.Path.{_≡_, refl, sym, ap, _∙_}
 use mathlib.Core.Bool.{true}
-use mathlib.Core.List.{List}
+use mathlib.Core.Logic.{inl, inr}
+use mathlib.Core.List.{List, _∷_, _++_}
 use native.Mathlib.Omega.{arith}
-use lib.ListN.{length}
+use lib.ListN.{length, length-append}
+use lib.Seq.{take-at, drop-at}
 use Rattle.octets.specs.Octets.{Bytes}
-use Rattle.octets.specs.Run.{tree, tiles}
+use Rattle.octets.specs.Run.{item, after, tree, tiles}
+use Rattle.octets.proofs.Numbers.{be-front}
+use Rattle.octets.proofs.Runs.{tree-none, tree-step}
 use Rattle.refusal.specs.Answer.{accepted, passes}
 use Rattle.rfc6733.specs.Header.{messageLength, headerRefusals}
-use Rattle.rfc6733.specs.Dictionary.{Dictionary, sawp}
+use Rattle.rfc6733.specs.Avp.{flags, avpLength, headSize, dataSize, avpSize, complete, Exact}
+use Rattle.rfc6733.specs.Dictionary.{Dictionary}
 use Rattle.rfc6733.specs.Records.{avps}
 use Rattle.rfc6733.specs.Decoder.{messageBody}
-use Rattle.record.specs.Forest.{forest, flat}
-use Rattle.rfc6733.specs.Writer.{Fields, forestBytes, tableBytes, written}
+use Rattle.record.specs.Forest as table
+use Rattle.record.specs.Forest.{Forest, none, forest, flat}
 use Rattle.record.specs.Table.{tableOf}
+use Rattle.rfc6733.specs.Writer.{Fields, avpBytes, forestBytes, bodyOf, tableBytes, written}
+use Rattle.rfc6733.proofs.Complete.{complete-whole, whole-complete}
+use Rattle.rfc6733.proofs.Items.{sound}
 use Rattle.rfc6733.proofs.Messages.{message-read}
+use Rattle.rfc6733.proofs.Tests.{decide}
+use Rattle.round_trip.specs.Forests.{size}
+use Rattle.round_trip.specs.Rules.{Kept}
 use Rattle.round_trip.specs.Tables.{AllFit}
-use Rattle.round_trip.specs.Tops.{tops, topRecords, roots, ofDepth}
+use Rattle.round_trip.specs.Tops.{topOf, tops, topRecords, roots, ofDepth}
 use Rattle.round_trip.proofs.Shape.{flat-forest}
-use Rattle.round_trip.proofs.Kept.{valid-kept}
-use Rattle.round_trip.proofs.Lengths.{message-length}
-use Rattle.round_trip.proofs.Tables.{table-fits}
-use Rattle.round_trip.proofs.ForestBack.{back}
-use Rattle.round_trip.proofs.Kept.{roots-table}
+use Rattle.round_trip.proofs.Kept.{valid-kept, roots-table}
+use Rattle.round_trip.proofs.Lengths.{head-low, avp-length, body, long, message-length}
+use Rattle.round_trip.proofs.Tables.{fit-after, table-fits}
+use Rattle.round_trip.proofs.AvpBack.{exact-back, top-back}
 use Rattle.round_trip.proofs.Written.{written-writable}
+
+-- ---- an AVP before other bytes
+
+module _ (D : Dictionary) (a x : List ℕ) (exact : Exact a) where
+  record Before : Type 0 where
+    is-complete : complete (a ++ x) ≡ true
+    item-is : item (avps D) (a ++ x) ≡ a
+    after-is : after (avps D) (a ++ x) ≡ x
+
+  before : Before
+  unfolding item after avpSize dataSize
+  before =
+      let w = complete-whole a (exact .whole) in
+      let s = a ++ x in
+      let long = length-append a x in
+      let f : flags s ≡ flags a = be-front 1 a x 4 (omega arith) in
+      let l : avpLength s ≡ avpLength a = be-front 3 a x 5 (omega arith) in
+      let h = ap headSize f in
+      let z : avpSize s ≡ length a = rw (l, h) (exact .size-is) in
+      record {
+        is-complete = whole-complete s (record { eight = omega arith; long = omega arith; room = omega arith });
+        item-is = take-at a x (avpSize s) (sym z);
+        after-is = drop-at a x (avpSize s) (sym z);
+      }
+
+  one-back : 0 < length a
+      → (tiles (tree (avps D) (a ++ x)) ≡ tiles (tree (avps D) x)) × (tops (tree (avps D) (a ++ x)) ≡ topOf a ∷ tops (tree (avps D) x))
+  one-back some =
+      let w = before in
+      rw (tree-step (avps D) (sound (avps D .nested)) (a ++ x) (omega (arith, length-append a x)), w .is-complete, w .item-is, w .after-is)
+      (elim (decide (avps D .nested a)) [ inl e ↦ rw e (refl, refl) | inr e ↦ rw e (refl, refl) ])
+
+-- ---- a forest
+
+record Back (D : Dictionary) (pool : List ℕ) (f : Forest) : Type 0 where
+  tiled : tiles (tree (avps D) (forestBytes pool f)) ≡ true
+  same : tops (tree (avps D) (forestBytes pool f)) ≡ topRecords pool f
+
+back : (D : Dictionary) (pool : List ℕ) (f : Forest) → Kept (length pool) f → AllFit (flat f) → length (forestBytes pool f) < 256 ^ 3 → Back D pool f
+back D pool none k fits short = record { tiled = rw tree-none; same = rw tree-none }
+back D pool (table.node r i t) k fits short =
+    let l = long pool i (k .1) in
+    let b = body pool (r .depth) r (forestBytes pool i) (size i) (k .0) (l .is) (l .words) in
+    let inside = bodyOf pool r (forestBytes pool i) in
+    let own = avp-length r inside (b .padded-is .few) in
+    let all = length-append (avpBytes r inside) (forestBytes pool t) in
+    let low = head-low r in
+    let e = exact-back (r .depth) (length pool) r inside (k .0) (fits .0) (b .padded-is) (omega arith) in
+    let q = top-back (r .depth) (length pool) r inside (k .0) (fits .0) (b .padded-is) (omega arith) in
+    let rest = back D pool t (k .2) (fit-after (flat i) (flat t) (fits .1)) (omega arith) in
+    let o = one-back D (avpBytes r inside) (forestBytes pool t) e (omega arith) in
+    record { tiled = o .0 ∙ rest .tiled; same = o .1 ∙ rw (q, rest .same) }
+
+-- ---- a message
 
 pub record ReadBack (D : Dictionary) (f : Fields) (table pool : List ℕ) (n : ℕ) : Type 0 where
   pub header : passes (headerRefusals (tableBytes f table pool)) ≡ true
@@ -48,12 +113,8 @@ read-back D f table pool room n bytes e =
     let b = back D pool (forest rs) (valid-kept 1 (length pool) rs (w .0 .valid)) fit (omega (arith, w .0 .short)) in
     record {
       header = r .header;
-      stated = r .stated ∙ sym (r .length-is) ∙ w .1;
-      tiled = ap (λ (s : List ℕ). tiles (tree (avps D) s)) (r .body-is) ∙ b .tiled;
-      same-tops = ap (λ (s : List ℕ). tops (tree (avps D) s)) (r .body-is) ∙ b .same;
+      stated = omega arith;
+      tiled = rw (r .body-is) (b .tiled);
+      same-tops = rw (r .body-is) (b .same);
       depth-one = roots-table (length pool) rs (w .0 .valid);
     }
-
-pub sawp-read-back : (f : Fields) (table pool : List ℕ) (room n : ℕ) → Bytes table → written f table pool room ≡ accepted n
-    → ReadBack sawp f table pool n
-sawp-read-back = read-back sawp

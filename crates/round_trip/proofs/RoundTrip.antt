@@ -2,38 +2,54 @@
 -- fields and its records, with places that point into the message itself, by any lawful dictionary and in any room that holds it.
 -- The header's numbers are written where they were read; the run of AVPs is `RunTrip`.
 -- Assumes nothing.
-use Prim.Native.Nat.{ℕ, _-_, _≤_}
-use mathlib.Core.Path.{_≡_, sym, ap, _∙_}
-use mathlib.Core.List.{List, [], _++_, map, append-nil}
+use Prim.Native.Nat.{ℕ, _+_, _-_, _≤_}
+use mathlib.Core.Path.{_≡_, refl, ap, _∙_}
+use mathlib.Core.List.{List}
 use native.Mathlib.Omega.{arith}
 use lib.ListN.{length, take, drop, length-drop}
-use lib.Seq.{length-take-le}
-use Rattle.octets.specs.Octets.{Bytes}
+use lib.Seq.{length-take-le, take-add}
+use Rattle.octets.specs.Octets.{pack, Bytes}
+use Rattle.octets.proofs.Layouts.{bytes-back}
 use Rattle.octets.specs.Run.{tree}
 use Rattle.octets.proofs.Numbers.{be-small}
 use Rattle.refusal.specs.Answer.{accepted}
-use Rattle.rfc6733.specs.Header.{headerSize, messageLength, headerOf}
-use Rattle.rfc6733.specs.Dictionary.{Dictionary, sawp, rfc}
-use Rattle.record.specs.Record.{Record, laid}
+use Rattle.rfc6733.specs.Header.{headerSize, headerLayout, messageLength, headerOf}
+use Rattle.rfc6733.specs.Dictionary.{Dictionary}
+use Rattle.record.specs.Record.{laid}
 use Rattle.rfc6733.specs.Records.{avps}
 use Rattle.rfc6733.specs.Decoder.{Message, runRecords, messageBody, messageRecords, decoded}
-use Rattle.record.specs.Forest.{Forest, forest, flat}
-use Rattle.record.specs.Table.{tableOf, bare}
-use Rattle.rfc6733.specs.Writer.{forestBytes, messageBytes, tableBytes, most24, written}
-use Rattle.rfc6733.proofs.Accepted.{when-accepted}
+use Rattle.record.specs.Forest.{Forest, flat}
+use Rattle.record.specs.Table.{tableOf}
+use Rattle.rfc6733.specs.Writer.{forestBytes, headerFields, messageBytes, tableBytes, most24, written}
+use Rattle.rfc6733.proofs.Accepted.{Headed, when-accepted}
 use Rattle.record.proofs.Layouts.{laid-length}
 use Rattle.round_trip.specs.Tables.{AllFit}
 use Rattle.round_trip.specs.Trip.{fieldsOf, Lawful, forestOf}
 use Rattle.round_trip.proofs.Packed.{bytes-take, bytes-drop}
-use Rattle.round_trip.proofs.Headers.{message-again}
-use Rattle.round_trip.proofs.LeafKinds.{sawp-lawful, rfc-lawful}
-use Rattle.round_trip.proofs.Tables.{table-none}
 use Rattle.round_trip.proofs.Tables.{fit-bare, laid-read}
 use Rattle.round_trip.proofs.Shape.{sound-valid, sound-read}
 use Rattle.round_trip.proofs.Packed.{holds-here}
 use Rattle.round_trip.proofs.AvpTrip.{Trip}
 use Rattle.round_trip.proofs.RunTrip.{flat-records, trips}
 use Rattle.round_trip.proofs.Written.{writable-written}
+
+-- ---- the header
+
+-- the two numbers that the writer sets itself, version and length, are those that were read
+header-again : (s : List ℕ) → Bytes s → Headed s → pack (headerFields (fieldsOf (headerOf s)) (messageLength s)) ≡ take 20 s
+unfolding fieldsOf headerOf
+header-again s b h = rw (h .version) at (bytes-back headerLayout s refl (omega arith) b)
+
+message-again : (s body : List ℕ) → Bytes s → Headed s → body ≡ messageBody s → messageBytes (fieldsOf (headerOf s)) body ≡ take (messageLength s) s
+unfolding messageBytes messageBody
+message-again s body b h e =
+    let n = messageLength s in
+    let l = length-take-le (n - 20) (drop 20 s) (omega (arith, length-drop 20 s)) in
+    let there : 20 + length body ≡ n = rw e (omega arith) in
+    let all : 20 + (n - 20) ≡ n = omega arith in
+    rw (there, e, header-again s b h) (rw (← take-add 20 (n - 20) s, all))
+
+-- ---- the message
 
 pub record WrittenAgain (D : Dictionary) (s : List ℕ) (room : ℕ) : Type 0 where
   pub accepts : written (fieldsOf (headerOf s)) (laid (messageRecords D s)) s room ≡ accepted (messageLength s)
@@ -63,22 +79,13 @@ module _ (D : Dictionary) (lawful : Lawful D) (limit room : ℕ) (s : List ℕ) 
   -- the records in the table are those of the run
   table-is : tableOf (laid (messageRecords D s)) ≡ flat trees
   unfolding messageRecords runRecords
-  table-is =
-      let rs = messageRecords D s in
-      let same = flat-records D headerSize 1 (tree (avps D) (messageBody s)) in
-      ap tableOf (sym (append-nil (laid rs)))
-      ∙ laid-read rs [] records-fit
-      ∙ ap (λ (x : List Record). map bare rs ++ x) (table-none [] (omega arith))
-      ∙ append-nil (map bare rs)
-      ∙ same
+  table-is = rw (laid-read (messageRecords D s) records-fit) (flat-records D headerSize 1 (tree (avps D) (messageBody s)))
 
-  pub same-message : tableBytes (fieldsOf (headerOf s)) (laid (messageRecords D s)) s ≡ take (messageLength s) s
+  same-message : tableBytes (fieldsOf (headerOf s)) (laid (messageRecords D s)) s ≡ take (messageLength s) s
   unfolding tableBytes
   same-message =
       let a = when-accepted D limit room s m e in
-      let read : forest (tableOf (laid (messageRecords D s))) ≡ trees = ap forest table-is ∙ sound-read (length s) 1 trees (trip .sound-is) in
-      ap (λ (f : Forest). messageBytes (fieldsOf (headerOf s)) (forestBytes s f)) read
-      ∙ message-again s (forestBytes s trees) bytes (a .header) (trip .is)
+      rw (table-is, sound-read (length s) 1 trees (trip .sound-is)) (message-again s (forestBytes s trees) bytes (a .header) (trip .is))
 
   code-small : fieldsOf (headerOf s) .code ≤ most24
   unfolding fieldsOf headerOf
@@ -91,7 +98,7 @@ module _ (D : Dictionary) (lawful : Lawful D) (limit room : ℕ) (s : List ℕ) 
       let small = be-small 3 s 1 bytes in
       let table = laid (messageRecords D s) in
       let total : length (tableBytes (fieldsOf (headerOf s)) table s) ≡ messageLength s =
-      ap length same-message ∙ length-take-le (messageLength s) s (h .there)
+      rw same-message (length-take-le (messageLength s) s (h .there))
       in
       record {
         accepts =
@@ -106,13 +113,3 @@ module _ (D : Dictionary) (lawful : Lawful D) (limit room : ℕ) (s : List ℕ) 
             ∙ ap accepted total;
         same-bytes = same-message;
       }
-
--- ---- both readings
-
-pub sawp-round-trip : (limit room : ℕ) (s : List ℕ) (m : Message) → Bytes s → decoded sawp limit room s ≡ accepted m
-    → (room′ : ℕ) → messageLength s ≤ room′ → WrittenAgain sawp s room′
-sawp-round-trip = round-trip sawp sawp-lawful
-
-pub rfc-round-trip : (limit room : ℕ) (s : List ℕ) (m : Message) → Bytes s → decoded rfc limit room s ≡ accepted m
-    → (room′ : ℕ) → messageLength s ≤ room′ → WrittenAgain rfc s room′
-rfc-round-trip = round-trip rfc rfc-lawful

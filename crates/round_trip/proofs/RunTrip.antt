@@ -19,7 +19,7 @@ use Rattle.record.specs.Forest as table
 use Rattle.record.specs.Forest.{none, flat}
 use Rattle.record.specs.Table.{bare}
 use Rattle.rfc6733.proofs.Alone.{item-exact}
-use Rattle.rfc6733.proofs.Complete.{sizes, complete-whole}
+use Rattle.rfc6733.proofs.Complete.{exact-sizes}
 use Rattle.rfc6733.proofs.Items.{sound, payload-length}
 use Rattle.rfc6733.proofs.Tests.{decide}
 use Rattle.round_trip.specs.Trip.{Ungrouped, Lawful, forestOf}
@@ -80,9 +80,8 @@ module _ (pool : List ℕ) (D : Dictionary) (lawful : Lawful D) where
       members : depth + 1 + deepest inner ≤ 65 → tiles inner ≡ true
           → Trip pool (depth + 1) (payload a) (forestOf D (place + headSize (flags a)) (depth + 1) inner)
       members d t =
-          let w = complete-whole a (exact .whole) in
-          let z = sizes a in
-          let l = payload-length a w in
+          let z = exact-sizes a exact in
+          let l = payload-length a (z .0) in
           inside (place + headSize (flags a)) (depth + 1) (omega arith) d (bytes-payload a (bytes-item D s bytes)) (omega (arith, exact .size-is))
           (payload-held pool place a exact held) t
 

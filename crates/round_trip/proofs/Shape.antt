@@ -2,7 +2,7 @@
 -- deeper than a record and the rest of it are all of it. A forest is read again where its members stand one level deeper, and is laid
 -- out as a valid table where its records keep the rules and only a group has members.
 -- Assumes nothing.
-use Prim.Native.Nat.{ℕ, _+_, _<_}
+use Prim.Native.Nat.{ℕ, _+_, _≤_, _<_}
 use mathlib.Core.Path.{_≡_, refl, ap, _∙_}
 use mathlib.Core.Bool.{true, false}
 use mathlib.Core.Logic.{inl, inr}
@@ -34,6 +34,9 @@ flat-forest (r ∷ rs) = rw (split (r .depth + 1) (forest rs), flat-forest rs)
 pub count-flat : (f : Forest) → length (flat f) ≡ count f
 count-flat none = refl
 count-flat (node r i t) = omega (arith, length-append (flat i) (flat t), count-flat i, count-flat t)
+
+pub leading-fewer : (d : ℕ) (f : Forest) → count (leading d f) ≤ count f
+leading-fewer d f = omega (arith, count-flat (leading d f), count-flat f, simp length-append at (ap length (split d f)))
 
 -- ---- a forest that keeps the rules
 

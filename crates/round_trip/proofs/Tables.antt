@@ -3,7 +3,7 @@
 -- Assumes nothing.
 use Prim.Native.Nat.{ℕ, zero, suc, _+_, _*_, _/_, _^_, _≤_, _<_}
 use mathlib.Core.Path.{_≡_, refl, ap, _∙_}
-use mathlib.Core.List.{List, [], _∷_, _++_, map, append-assoc}
+use mathlib.Core.List.{List, [], _∷_, _++_, map}
 use native.Mathlib.Nat.{mod-eq-of-lt}
 use native.Mathlib.Omega.{arith}
 use lib.ListN.{length, drop, length-append, length-drop}
@@ -56,13 +56,12 @@ record-read r more f =
     ap (λ (ns : List ℕ). bare (recordLayout .made ns)) (unpack-low (recordLayout .sizes) (recordLayout .numbers r) more)
     ∙ ap (recordLayout .made) (low-fit (recordLayout .sizes) (recordLayout .numbers (bare r)) f)
 
-pub laid-read : (rs : List Record) (more : List ℕ) → AllFit rs → tableOf (laid rs ++ more) ≡ map bare rs ++ tableOf more
-laid-read [] more f = refl
-laid-read (r ∷ rs) more f =
-    let s = laid rs ++ more in
+pub laid-read : (rs : List Record) → AllFit rs → tableOf (laid rs) ≡ map bare rs
+laid-read [] f = table-none [] (omega arith)
+laid-read (r ∷ rs) f =
     let l = record-length r in
-    let some : recordSize ≤ length (recordBytes r ++ s) = omega (arith, length-append (recordBytes r) s) in
-    rw (append-assoc, table-some _ some, record-read r s (f .0), drop-at (recordBytes r) s recordSize l, laid-read rs more (f .1))
+    let some : recordSize ≤ length (laid (r ∷ rs)) = omega (arith, length-append (recordBytes r) (laid rs)) in
+    rw (table-some _ some, record-read r (laid rs) (f .0), drop-at (recordBytes r) (laid rs) recordSize l, laid-read rs (f .1))
 
 pub fit-bare : (rs : List Record) → AllFit (map bare rs) → AllFit rs
 unfolding bare

@@ -16,8 +16,8 @@ use Rattle.round_trip.specs.Forests.{count}
 use Rattle.round_trip.specs.Rules.{Good, Valid}
 use Rattle.round_trip.specs.Tables.{run, one}
 use Rattle.round_trip.proofs.Rules.{keeps-good, after-group, after-leaf}
-use Rattle.round_trip.proofs.Shape.{flat-forest, count-flat}
-use Rattle.round_trip.proofs.Kept.{leading-fewer, forest-tail, valid-tail}
+use Rattle.round_trip.proofs.Shape.{flat-forest, count-flat, leading-fewer}
+use Rattle.round_trip.proofs.Kept.{forest-tail, valid-tail}
 use Rattle.round_trip.proofs.Tables.{table-none, table-some, table-drop, table-length}
 
 -- ---- where a run ends: the table ends, or goes on above it

@@ -3,20 +3,19 @@
 -- Assumes nothing.
 use Prim.Native.Nat.{ℕ, _+_, _-_, _^_, _<_}
 use mathlib.Core.Path.{_≡_, refl}
-use mathlib.Core.Bool.{Bool, true, false, cond}
+use mathlib.Core.Bool.{Bool, true, false}
+use mathlib.Core.Logic.{inl, inr}
 use mathlib.Core.List.{List, [], _∷_, _++_}
 use native.Mathlib.Omega.{arith}
 use lib.ListN.{length, drop}
 use Rattle.octets.specs.Octets.{Bytes}
-use Rattle.octets.specs.Run.{item, after, Tree, node, tree, tiles}
+use Rattle.octets.specs.Run.{item, Tree, node, tree, tiles}
 use Rattle.octets.proofs.Layouts.{value-back, fit-at}
-use Rattle.octets.proofs.Runs.{Parts, tree-none, tree-step, by-run}
+use Rattle.octets.proofs.Runs.{tree-none, tree-step, by-run}
 use Rattle.refusal.specs.Answer.{accepted}
-use Rattle.flags.specs.Flags.{dataValue}
 use Rattle.rfc6733.specs.Header.{headerSize, messageLength}
 use Rattle.rfc6733.specs.Avp.{flags, headSize, payload, complete}
 use Rattle.rfc6733.specs.Value.{Value, value}
-use Rattle.record.specs.Kinds.{unhandled, grouped}
 use Rattle.rfc6733.specs.Dictionary.{Dictionary, sawp}
 use Rattle.record.specs.Record.{Record, recordLayout, recordBytes, recordAt}
 use Rattle.rfc6733.specs.Records.{avps, ownErrors, valueOf, groupValue, recordOf, errors, records}
@@ -24,6 +23,7 @@ use Rattle.rfc6733.specs.Decoder.{Message, runRecords, messageBody, messageReco
 use Rattle.record.specs.Table.{bare}
 use Rattle.flags.proofs.Joins.{join-small}
 use Rattle.rfc6733.proofs.RunErrors.{Small, own-small, value-small, errors-small, bare-small}
+use Rattle.rfc6733.proofs.Tests.{decide}
 use Rattle.rfc6733.proofs.Items.{sound}
 use Rattle.round_trip.specs.Tables.{Fits, AllFit}
 use Rattle.round_trip.proofs.Packed.{bytes-take, bytes-drop, bytes-item, bytes-payload, bytes-after}
@@ -61,27 +61,23 @@ module _ (D : Dictionary) (address-small : (s : List ℕ) → Small s (D .asAddr
 
   group-small : (s : List ℕ) (inner : Tree) → Small s (groupValue D inner)
   unfolding groupValue
-  group-small s inner = by (tiles inner)
-    where
-      by : (b : Bool) → Small s (cond b (value grouped (errors D inner) 0) (value unhandled dataValue 0))
-      by true = record { below = errors-small D address-small inner; fits = λ b. omega arith }
-      by false = record { below = omega arith; fits = λ b. omega arith }
+  group-small s inner =
+      elim (decide (tiles inner)) [
+        | inl e ↦ rw e (record { below = errors-small D address-small inner; fits = λ b. omega arith })
+        | inr e ↦ rw e (record { below = omega arith; fits = λ b. omega arith })
+      ]
 
   -- an AVP with what is inside it, and what follows
   module _ (place depth : ℕ) (a : List ℕ) (inner rest : Tree) (own : Bytes (payload a))
       (inside : AllValued (records D (place + headSize (flags a)) (depth + 1) inner)) (follows : AllValued (records D (place + length a) depth rest)) where
-    abbrev members : List Record
-    members = records D (place + headSize (flags a)) (depth + 1) inner
-
-    members-valued : (b : Bool) → AllValued (cond b members [])
-    members-valued true = inside
-    members-valued false = tt
-
     node-valued : (b : Bool) → AllValued (records D place depth (node true b a inner rest))
     node-valued false = (one-valued place depth a (valueOf D a) (value-small D address-small a) own, follows)
     node-valued true = (
       one-valued place depth a (groupValue D inner) (group-small (payload a) inner) own,
-      both-valued (cond (tiles inner) members []) _ (members-valued (tiles inner)) follows,
+      elim (decide (tiles inner)) [
+        | inl e ↦ rw e (both-valued (records D (place + headSize (flags a)) (depth + 1) inner) _ inside follows)
+        | inr e ↦ rw e follows
+      ],
     )
 
   -- the run s, whose tree is t, wherever it stands
@@ -91,17 +87,16 @@ module _ (D : Dictionary) (address-small : (s : List ℕ) → Small s (D .asAddr
   run-valued : (s : List ℕ) → RunValued s (tree (avps D) s)
   run-valued =
       by-run (avps D) (sound (avps D .nested)) (λ (s : List ℕ). RunValued s (tree (avps D) s)) (rw tree-none (λ bytes place depth. tt))
-      (λ s pos h. rw (tree-step (avps D) (sound (avps D .nested)) s pos) (by s (complete s) refl h))
-    where
-      by : (s : List ℕ) (c : Bool) → complete s ≡ c
-          → (complete s ≡ true → Parts (avps D) s × RunValued (payload (item (avps D) s)) (tree (avps D) (payload (item (avps D) s))) × RunValued (after (avps D) s) (tree (avps D) (after (avps D) s)))
-          → RunValued s (node c (avps D .nested (item (avps D) s)) (item (avps D) s) (tree (avps D) (payload (item (avps D) s))) (tree (avps D) (after (avps D) s)))
-      by s false e h = λ bytes place depth. tt
-      by s true e h = λ bytes place depth.
-          let a = item (avps D) s in
-          let own = bytes-payload a (bytes-item D s bytes) in
-          let k = h e in
-          node-valued place depth a _ _ own (k .1 own _ _) (k .2 (bytes-after D s bytes) _ _) (avps D .nested a)
+      (λ s pos h bytes place depth.
+      let a = item (avps D) s in
+      let own = bytes-payload a (bytes-item D s bytes) in
+      rw (tree-step (avps D) (sound (avps D .nested)) s pos)
+      (elim (decide (complete s)) [
+        | inl e ↦
+            let k = h e in
+            rw e (node-valued place depth a _ _ own (k .1 own _ _) (k .2 (bytes-after D s bytes) _ _) (avps D .nested a))
+        | inr e ↦ rw e tt
+      ]))
 
 -- ---- the records of a message
 
