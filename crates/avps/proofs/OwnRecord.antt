@@ -25,8 +25,7 @@ use Rattle.rfc6733.specs.Entered.{valueIn, entered}
 use Rattle.rfc6733.proofs.Complete.{sizes, complete-whole}
 use Rattle.rfc6733.proofs.Items.{payload-length}
 use Rattle.record.proofs.Layouts.{record-length}
-use Rattle.rfc6733.proofs.Alone.{exact-tree}
-use Rattle.rfc6733.proofs.Entered.{Made, made}
+use Rattle.rfc6733.proofs.Alone.{exact-tree, Made, made}
 use Rattle.avp.specs.declared.AVP.{AVP}
 use Rattle.front.specs.Front.{avpOf}
 use Rattle.front.proofs.Fronts.{Here, here}

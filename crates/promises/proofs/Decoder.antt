@@ -11,8 +11,7 @@ use Rattle.record.specs.Store.{capacity}
 use Rattle.rfc6733.specs.Decoder.{messageOf, decoded}
 use Rattle.rfc6733.specs.Writer.{most24}
 use Rattle.rfc6733.specs.Extremal.{extremal}
-use Rattle.rfc6733.proofs.Extremal.{Reaches}
-use Rattle.rfc6733.proofs.Demand3.{headers-tried, best-sawp, best-rfc}
+use Rattle.rfc6733.proofs.Demand3.{Reaches, headers-tried, best-sawp, best-rfc}
 use Rattle.attribute.specs.declared.Reading.{Reading}
 use Rattle.attribute.specs.declared.Reading.the-variants.{Sawp, Rfc}
 use Rattle.attribute.specs.Attributes.{dictionary}

@@ -1,22 +1,31 @@
 -- A run is its first AVP alone and what follows it: every count of the run is that of the one joined with that of the other. An
--- AVP's own bytes are a run of one, so a reader of AVPs has the same contract as a reader of runs.
+-- AVP's own bytes are a run of one, so a reader of AVPs has the same contract as a reader of runs. The records of one AVP are its own
+-- and then those of the run that is entered in it: it is no group, a group that tiles, or one that does not.
 -- Assumes nothing.
 use Prim.Native.Nat.{ℕ, _+_, _≤_, _<_, max}
-use mathlib.Core.Path.{_≡_, refl, sym, ap, _∙_}
-use mathlib.Core.Bool.{Bool, true, false}
-use mathlib.Core.List.{List, _++_, append-nil}
+use mathlib.Core.Path.{_≡_, sym, ap, _∙_}
+use mathlib.Core.Bool.{Bool, true, false, cond}
+use mathlib.Core.Logic.{inl, inr}
+use mathlib.Core.List.{List, _++_, append-nil, _∷_}
 use native.Mathlib.Omega.{arith}
 use lib.ListN.{length, take, drop, drop-of-length-le}
 use lib.Seq.{take-all}
 use Rattle.octets.specs.Run.{item, after, Tree, done, plain, group, node, tree, tiles, tried, deepest}
 use Rattle.octets.proofs.Runs.{parts, tree-none, tree-step}
 use Rattle.flags.specs.Flags.{join}
-use Rattle.rfc6733.specs.Avp.{avpSize, payload, complete, Exact}
 use Rattle.rfc6733.specs.Dictionary.{Dictionary}
-use Rattle.rfc6733.specs.Records.{avps, errors, records, recordCount}
+use Rattle.rfc6733.specs.Records.{avps, errors, records, recordCount, avpKind, valueOf, ownErrors, recordOf, tiling, groupValue}
 use Rattle.flags.proofs.Joins.{join-zero}
 use Rattle.rfc6733.proofs.Complete.{complete-whole, whole-complete}
+use Rattle.rfc6733.proofs.Tests.{decide}
 use Rattle.rfc6733.proofs.Items.{sound, item-same, item-length, item-whole}
+use native.Mathlib.Nat.{add-zero}
+use lib.Dec.{eqb}
+use Rattle.rfc6733.specs.Avp.{code, flags, headSize, vendor, avpSize, payload, complete, Exact}
+use Rattle.rfc6733.specs.Value.{Value}
+use Rattle.record.specs.Kinds.{grouped}
+use Rattle.rfc6733.specs.Entered.{valueIn, entered}
+use Rattle.rfc6733.proofs.Tiling.{tiles-any}
 
 -- the tree of one AVP
 unfoldable pub alone : Dictionary → List ℕ → Tree
@@ -53,24 +62,8 @@ pub record Joined (D : Dictionary) (n : ℕ) (t a r : Tree) : Type 0 where
   pub records-are : (place depth : ℕ) → records D place depth t ≡ records D place depth a ++ records D (place + n) depth r
 
 joined-node : (D : Dictionary) (b : Bool) (a : List ℕ) (i r : Tree) → Joined D (length a) (node true b a i r) (node true b a i done) r
-joined-node D true a i r =
-    record {
-      tiles-is = refl;
-      count-is = omega arith;
-      tried-is = omega arith;
-      deepest-is = omega arith;
-      errors-are = ap (λ (x : ℕ). join x (errors D r)) (sym (join-zero _));
-      records-are = λ place depth. simp append-nil;
-    }
-joined-node D false a i r =
-    record {
-      tiles-is = refl;
-      count-is = omega arith;
-      tried-is = omega arith;
-      deepest-is = omega arith;
-      errors-are = ap (λ (x : ℕ). join x (errors D r)) (sym (join-zero _));
-      records-are = λ place depth. refl;
-    }
+joined-node D true a i r = search (arith, join-zero, append-nil)
+joined-node D false a i r = search (arith, join-zero)
 
 pub joined : (D : Dictionary) (s : List ℕ) → complete s ≡ true
     → Joined D (avpSize s) (tree (avps D) s) (tree (avps D) (item (avps D) s)) (tree (avps D) (after (avps D) s))
@@ -99,9 +92,33 @@ alone-group D a e = rw e
 pub some-tried : (D : Dictionary) (s : List ℕ) → 0 < length s → (1 ≤ deepest (tree (avps D) s)) × (1 ≤ tried (tree (avps D) s))
 some-tried D s pos =
     rw (tree-step (avps D) (sound (avps D .nested)) s pos)
-    (by (complete s) (avps D .nested (item (avps D) s)) (tree (avps D) (payload (item (avps D) s))) (tree (avps D) (after (avps D) s)))
-  where
-    by : (c b : Bool) (i r : Tree) → (1 ≤ deepest (node c b (item (avps D) s) i r)) × (1 ≤ tried (node c b (item (avps D) s) i r))
-    by false b i r = (omega arith, omega arith)
-    by true false i r = (omega arith, omega arith)
-    by true true i r = (omega arith, omega arith)
+    (elim (decide (complete s)) [
+      | inl e ↦
+          elim (decide (avps D .nested (item (avps D) s))) [ inl f ↦ rw (e, f) (omega arith) | inr f ↦ rw (e, f) (omega arith) ]
+      | inr e ↦ rw e (omega arith)
+    ])
+
+-- ---- one AVP, made up of its own record and what is entered
+
+pub record Made (D : Dictionary) (a : List ℕ) (t : Tree) (v : Value) (e : Tree) : Type 0 where
+  pub records-are : (place depth : ℕ)
+      → records D place depth t ≡ recordOf place depth a v ∷ records D (place + headSize (flags a)) (depth + 1) e
+  pub errors-are : errors D t ≡ join (ownErrors a) (v .errors)
+  pub count-is : recordCount t ≡ 1 + recordCount e
+  pub deeper : 1 + deepest e ≤ deepest t
+
+module _ (D : Dictionary) (a : List ℕ) where
+  made-group : (b : Bool) → tiles (tree (avps D) (payload a)) ≡ b
+      → Made D a (node true true a (tree (avps D) (payload a)) done) (groupValue D (tree (avps D) (payload a)))
+      (cond b (tree (avps D) (payload a)) done)
+  unfolding groupValue
+  made-group true e = search (e, arith, join-zero, append-nil, add-zero)
+  made-group false e = search (e, arith, join-zero)
+
+  pub made : Made D a (alone D a) (valueIn D (code a) (vendor a) (payload a)) (entered D (code a) (vendor a) (payload a))
+  unfolding alone valueIn entered avpKind valueOf
+  made =
+      elim (decide (eqb (D .kind (code a) (vendor a)) grouped)) [
+        | inl e ↦ rw e (made-group (tiling (payload a)) (tiles-any D (payload a)))
+        | inr e ↦ rw e (search (arith, join-zero))
+      ]

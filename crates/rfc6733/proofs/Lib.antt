@@ -6,12 +6,10 @@ pub mod Tiling
 pub mod RunRecords
 pub mod RunErrors
 pub mod Alone
-pub mod Entered
 pub mod Tried
 pub mod Messages
 pub mod Decoded
 pub mod Accepted
-pub mod Extremal
 pub mod Demand3
 pub mod MarkedMessages
 pub mod KindsRead

@@ -3,7 +3,7 @@
 -- Assumes nothing.
 use Prim.Native.Nat.{ℕ}
 use mathlib.Core.Path.{_≡_, refl, sym}
-use mathlib.Core.Bool.{Bool, true, false, cond, _||_, or-assoc}
+use mathlib.Core.Bool.{Bool, true, false, cond, _||_, or-assoc, or-true}
 use mathlib.Core.List.{List, [], _∷_, _++_}
 use mathlib.Core.Logic.{inl, inr}
 use types.Run.{OneOf}
@@ -17,10 +17,6 @@ one-of [] k h = absurd h
 one-of (x ∷ []) k h = rw (eq-eqb k x h)
 one-of (x ∷ y ∷ ks) k (inl e) = rw (eq-eqb k x e)
 one-of (x ∷ y ∷ ks) k (inr h) = rw (one-of (y ∷ ks) k h) (or-true (eqb k x))
-  where
-    or-true : (b : Bool) → b || true ≡ true
-    or-true true = refl
-    or-true false = refl
 
 pub none-of : (ks : List ℕ) (k : ℕ) → (OneOf ks k → ⊥) → oneOf k ks ≡ false
 none-of [] k h = refl

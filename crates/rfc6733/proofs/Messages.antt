@@ -2,18 +2,18 @@
 -- body that it was made of: each field of the header is read back where it was packed.
 -- Assumes nothing.
 use Prim.Native.Nat.{ℕ, _+_, _-_, _≤_}
-use mathlib.Core.Path.{_≡_, ap, ap₂, _∙_}
+use mathlib.Core.Path.{_≡_, _∙_}
 use mathlib.Core.Bool.{true}
 use mathlib.Core.List.{List, [], _∷_}
 use native.Mathlib.Omega.{arith}
-use lib.ListN.{length, take, drop, length-append}
+use lib.ListN.{length, drop, length-append}
 use lib.Seq.{drop-at, take-all}
-use borrow.Author.Tests.{le-ltb, eq-eqb}
 use Rattle.octets.specs.Octets.{be, field, pack}
 use Rattle.octets.proofs.Numbers.{length-pack, read-field}
 use Rattle.refusal.specs.Answer.{passes}
 use Rattle.rfc6733.specs.Header.{messageLength, headerRefusals}
 use Rattle.rfc6733.specs.Decoder.{messageBody}
+use Rattle.rfc6733.proofs.Tests.{eq-is, tests}
 use Rattle.rfc6733.specs.Writer.{Fields, most24, headerFields, messageBytes}
 
 pub record Read (s body : List ℕ) : Type 0 where
@@ -34,16 +34,6 @@ message-read f body le =
     record {
       length-is = all;
       stated = stated;
-      header =
-          simp (
-            le-ltb (length s) 1 (omega arith),
-            eq-eqb (be 1 s 0) 1 version,
-            le-ltb (length s) 4 (omega arith),
-            le-ltb (messageLength s) 4 (omega arith),
-            le-ltb (length s) (messageLength s) (omega arith),
-            le-ltb (messageLength s) 20 (omega arith),
-          );
-      body-is =
-          ap₂ (λ (m : ℕ) (t : List ℕ). take m t) (ap (λ (m : ℕ). m - 20) stated) (drop-at (pack (headerFields f n)) body 20 l)
-          ∙ take-all (n - 20) body (omega arith);
+      header = simp (eq-is, tests) (search arith);
+      body-is = rw (stated, drop-at (pack (headerFields f n)) body 20 l) (take-all (n - 20) body (omega arith));
     }

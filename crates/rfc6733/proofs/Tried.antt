@@ -3,8 +3,9 @@
 -- whole words and two. A group pays for those two by its own header, of eight bytes at least, of which its own count takes six.
 -- Assumes nothing.
 use Prim.Native.Nat.{ℕ, _+_, _-_, _*_, _/_, _%_, _≤_, _<_}
-use mathlib.Core.Path.{_≡_, refl, ap, _∙_}
+use mathlib.Core.Path.{_≡_, ap, _∙_}
 use mathlib.Core.Bool.{Bool, true, false}
+use mathlib.Core.Logic.{inl, inr}
 use mathlib.Core.List.{List}
 use native.Mathlib.Omega.{arith}
 use lib.ListN.{length}
@@ -14,6 +15,7 @@ use Rattle.rfc6733.specs.Avp.{flags, headSize, dataSize, padding, avpSiz
 use Rattle.rfc6733.specs.Dictionary.{Dictionary}
 use Rattle.rfc6733.specs.Records.{avps}
 use Rattle.rfc6733.proofs.Complete.{head, Whole, sizes, complete-whole}
+use Rattle.rfc6733.proofs.Tests.{decide}
 use Rattle.rfc6733.proofs.Items.{sound, item-same, payload-length}
 
 -- so many bytes in whole words. It stays shut below these laws, so that `omega` sees no quotient
@@ -49,26 +51,19 @@ record Few (t : Tree) (n : ℕ) : Type 0 where
   any : 6 * tried t ≤ words n + 2
   tiled : tiles t ≡ true → 6 * tried t ≤ n
 
-module _ (D : Dictionary) (s : List ℕ) (inner rest : Tree) where
-  few-node : (c b : Bool) → 0 < length s
-      → (c ≡ true → Whole s × Parts (avps D) s × Few inner (length (payload (item (avps D) s))) × Few rest (length (after (avps D) s)))
-      → Few (node c b (item (avps D) s) inner rest) (length s)
-  few-node false b pos h = record { any = omega (arith, some-word (length s) pos); tiled = λ e. absurd (false-true e) }
-  few-node true true pos h =
-      let w = h refl .0 in
-      let p = ap length (item-same (avps D .nested) s w .payload-is) ∙ payload-length s w in
+module _ (D : Dictionary) (s : List ℕ) (w : Whole s) (p : Parts (avps D) s) (inner rest : Tree)
+    (inside : Few inner (length (payload (item (avps D) s)))) (behind : Few rest (length (after (avps D) s))) where
+  few-node : (b : Bool) → Few (node true b (item (avps D) s) inner rest) (length s)
+  few-node b =
+      let l = ap length (item-same (avps D .nested) s w .payload-is) ∙ payload-length s w in
       let k = in-words s w in
-      let l = head (flags s) in
-      let fi : 6 * tried inner ≤ words (dataSize s) + 2 = rw p at (h refl .2 .any) in
-      let fr : 6 * tried rest ≤ words (length s - avpSize s) + 2 = rw (h refl .1 .after-length) at (h refl .3 .any) in
-      record { any = omega arith; tiled = λ e. let fx = h refl .3 .tiled e in let al = h refl .1 .after-length in omega arith }
-  few-node true false pos h =
-      let w = h refl .0 in
-      let k = in-words s w in
-      let l = head (flags s) in
-      let z = sizes s in
-      let fr : 6 * tried rest ≤ words (length s - avpSize s) + 2 = rw (h refl .1 .after-length) at (h refl .3 .any) in
-      record { any = omega arith; tiled = λ e. let fx = h refl .3 .tiled e in let al = h refl .1 .after-length in omega arith }
+      let h = head (flags s) in
+      let i : 6 * tried inner ≤ words (dataSize s) + 2 = rw l at (inside .any) in
+      let r : 6 * tried rest ≤ words (length s - avpSize s) + 2 = rw (p .after-length) at (behind .any) in
+      elim b [
+        | true ↦ record { any = omega arith; tiled = λ e. omega (arith, behind .tiled e) }
+        | false ↦ record { any = omega arith; tiled = λ e. omega (arith, behind .tiled e) }
+      ]
 
 few : (D : Dictionary) (s : List ℕ) → Few (tree (avps D) s) (length s)
 few D =
@@ -76,8 +71,10 @@ few D =
     (rw tree-none (record { any = omega arith; tiled = λ e. omega arith }))
     (λ s pos h.
     rw (tree-step (avps D) (sound (avps D .nested)) s pos)
-    (few-node D s (tree (avps D) (payload (item (avps D) s))) (tree (avps D) (after (avps D) s)) (complete s) (avps D .nested (item (avps D) s)) pos
-    (λ e. let p = h e in (complete-whole s e, p .0, p .1, p .2))))
+    (elim (decide (complete s)) [
+      | inl e ↦ let k = h e in rw e (few-node D s (complete-whole s e) (k .0) _ _ (k .1) (k .2) (avps D .nested (item (avps D) s)))
+      | inr e ↦ rw e (record { any = omega (arith, some-word (length s) pos); tiled = λ z. absurd (false-true z) })
+    ]))
 
 -- Demand 3, for any run that tiles
 pub tried-bound : (D : Dictionary) (s : List ℕ) → tiles (tree (avps D) s) ≡ true → 6 * tried (tree (avps D) s) ≤ length s

@@ -1,9 +1,9 @@
 -- An AVP's own bytes, made again from its record: the header's fields are written where they were read, the data stand after them,
 -- and the padding is held as a number. The record keeps the rules, and its numbers fit.
 -- Assumes nothing.
-use Prim.Native.Nat.{ℕ, _+_, _-_, _%_, _^_, _≤_, _<_}
+use Prim.Native.Nat.{ℕ, _+_, _%_, _^_, _≤_, _<_}
 use mathlib.Core.Path.{_≡_, refl}
-use mathlib.Core.Bool.{true, false}
+use mathlib.Core.Bool.{true}
 use mathlib.Core.Logic.{inl, inr}
 use mathlib.Core.List.{List, [], _∷_, _++_}
 use native.Mathlib.Omega.{arith}
@@ -43,14 +43,6 @@ module _ (place depth : ℕ) (a : List ℕ) (v : Value) where
   abbrev pub own : Record
   own = bare (recordOf place depth a v)
 
-  own-head : headOf own ≡ headSize (flags a)
-  unfolding bare recordOf headOf
-  own-head = refl
-
-  no-vendor : bit vendorBit (flags a) ≡ false → vendor a ≡ 0
-  unfolding vendor
-  no-vendor e = rw e
-
   vendor-small : Bytes a → vendor a < 256 ^ 4
   unfolding vendor
   vendor-small b = elim (decide (bit vendorBit (flags a))) [ inl e ↦ rw e (be-small 4 a 8 b) | inr e ↦ rw e (omega arith) ]
@@ -74,10 +66,9 @@ module _ (place depth : ℕ) (a : List ℕ) (v : Value) where
     pads-again = let z = sizes a in pads-written (padding (dataSize a)) (padsAt a) pads-length (omega arith) (bytes-drop (avpLength a) a bytes)
 
     pub avp-again : (body : List ℕ) → body ≡ payload a → avpBytes own body ≡ a
-    unfolding avpBytes payload
+    unfolding avpBytes payload bare recordOf headOf
     avp-again body e =
         let z = exact-sizes a exact in
-        let h = own-head in
         let l : length body ≡ dataSize a = rw e (payload-length a (z .0)) in
         let n : headOf own + length body ≡ avpLength a = omega arith in
         let at : avpLength a ≡ headSize (flags a) + dataSize a = omega arith in
@@ -91,21 +82,18 @@ module _ (place depth : ℕ) (a : List ℕ) (v : Value) where
         let l = pads-length in
         rw (drop-of-length-le a {i = avpLength a} (omega (arith, length-drop (avpLength a) a)))
 
-    unused : pads a % 256 ^ (3 - padding (dataSize a)) ≡ 0
-    unfolding pads
-    unused = let z = sizes a in pads-unused (padding (dataSize a)) (padsAt a) pads-length (omega arith)
-
     pub own-good : (n : ℕ) → 1 ≤ depth → depth ≤ 64 → v .kind ≤ time → place + length a ≤ n
         → (eqb (v .kind) grouped ≡ true → dataSize a % 4 ≡ 0) → Good depth n own
-    unfolding bare recordOf statedData headOf dataSize
+    unfolding bare recordOf statedData headOf dataSize vendor pads
     own-good n low high kind within words =
         let z = exact-sizes a exact in
+        let unused = pads-unused (padding (dataSize a)) (padsAt a) pads-length (omega arith) in
         record {
           some = low;
           most = high;
           allows = omega arith;
           kinds = kind;
-          no-vendor = no-vendor;
+          no-vendor = λ e. rw e;
           group = λ e. let p = no-padding (dataSize a) (words e) in record { padding-is = p; pads-are = no-pads p };
           leaf = λ e. record { long = z .0 .long; within = omega arith; padding-is = refl; unused = unused };
         }

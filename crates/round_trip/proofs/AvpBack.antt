@@ -101,15 +101,10 @@ module _ (allowed most : ℕ) (r : Record) (inside : List ℕ) (good : Good allo
 
   pub exact-back : Exact own
   exact-back =
-      let low = head-low r in
-      let e = head-back in
-      let l = length-back in
-      let p = padding-back in
-      let z = sizes own in
       let all = avp-length r inside (padded .few) in
       record {
-        whole = whole-complete own (record { eight = omega arith; long = omega arith; room = omega arith });
-        size-is = omega arith;
+        whole = whole-complete own (omega (arith, head-low r, head-back, length-back, padding-back, sizes own));
+        size-is = omega (arith, length-back, padding-back, sizes own);
       }
 
   pub top-back : topOf own ≡ topRecord r inside

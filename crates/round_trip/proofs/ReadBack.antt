@@ -58,7 +58,7 @@ module _ (D : Dictionary) (a x : List ℕ) (exact : Exact a) where
       let h = ap headSize f in
       let z : avpSize s ≡ length a = rw (l, h) (exact .size-is) in
       record {
-        is-complete = whole-complete s (record { eight = omega arith; long = omega arith; room = omega arith });
+        is-complete = whole-complete s (omega arith);
         item-is = take-at a x (avpSize s) (sym z);
         after-is = drop-at a x (avpSize s) (sym z);
       }

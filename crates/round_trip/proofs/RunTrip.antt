@@ -89,7 +89,8 @@ module _ (pool : List ℕ) (D : Dictionary) (lawful : Lawful D) where
         follows : Trip pool depth x (forestOf D (place + length a) depth rest)
         follows = behind (place + length a) depth low deep (bytes-after D s bytes) (omega arith) (holds-behind pool place a x both) tiled
 
-        as-leaf : (v : Value) → Ungrouped v → Trip pool depth (a ++ x) (table.node (own place depth a v) none (forestOf D (place + length a) depth rest))
+        as-leaf : (v : Value) → Ungrouped v
+            → Trip pool depth (a ++ x) (table.node (own place depth a v) none (forestOf D (place + length a) depth rest))
         as-leaf v u = trip-leaf pool place depth a exact (bytes-item D s bytes) held (omega arith) low high v _ x u follows
 
       trips-node : (b : Bool) → avps D .nested a ≡ b → depth + deepest (node true b a inner rest) ≤ 65 → tiles (node true b a inner rest) ≡ true
