@@ -4,11 +4,12 @@ use mathlib.Core.Path.{_≡_}
 use mathlib.Core.Bool.{true, false}
 use borrow.Author.Tests.{eq-eqb, ne-eqb}
 use Rattle.record.specs.Kinds.{grouped}
-use Rattle.record.specs.Record.{Record}
 use Rattle.rfc6733.specs.Writer.{isGroup}
+use Rattle.record.specs.Record.{Record}
 
-pub is-group : (r : Record) → r .kind ≡ grouped → isGroup r ≡ true
-is-group r e = eq-eqb (r .kind) grouped e
+module _ (r : Record) where
+  pub is-group : r .kind ≡ grouped → isGroup r ≡ true
+  is-group e = eq-eqb (r .kind) grouped e
 
-pub no-group : (r : Record) → (r .kind ≡ grouped → ⊥) → isGroup r ≡ false
-no-group r e = ne-eqb (r .kind) grouped e
+  pub no-group : (r .kind ≡ grouped → ⊥) → isGroup r ≡ false
+  no-group e = ne-eqb (r .kind) grouped e

@@ -1,6 +1,5 @@
 pub mod AnswerOf
-pub mod Heads
-pub mod Leaves
+pub mod Parts
 pub mod Runs
 pub mod Sizes
 pub mod Steps

@@ -4,11 +4,5 @@ use borrow.Author.Tests.{eq-eqb, ne-eqb}
 use Rattle.rules.proofs.keeps_group.Statement.{statement}
 use Rattle.rules.proofs.keeps_group.Tie as tie
 
-returns : tie.Need-returns
-returns c = rw (ne-eqb _ _ (c .if1 .taken))
-
-returns-2 : tie.Need-returns-2
-returns-2 c = rw (eq-eqb _ _ (c .before .if1 .left))
-
 pub keeps-group-spec : {M : Type 1} → statement M
-keeps-group-spec = tie.close (tie.spec returns returns-2)
+keeps-group-spec = tie.close (tie.spec (λ c. rw (ne-eqb _ _ (c .if1 .taken))) (λ c. rw (eq-eqb _ _ (c .before .if1 .left))))

@@ -7,17 +7,14 @@ use native.Mathlib.Omega.{arith}
 use Rattle.rules.proofs.unused_padding.Statement.{statement}
 use Rattle.rules.proofs.unused_padding.Tie as tie
 
-returns : tie.Need-returns
-returns c = rw (c .before .if1 .taken)
-
-returns-2 : tie.Need-returns-2
-returns-2 c = rw (c .before .if2 .taken)
-
-returns-3 : tie.Need-returns-3
-returns-3 c = rw (c .before .if3 .taken)
-
 returns-4 : tie.Need-returns-4
 returns-4 c = let none : 3 - c .before .before .before .before .before .before .args .r .padding ≡ 0 = omega arith in rw (none, mod-one)
 
 pub unused-padding-spec : {M : Type 1} → statement M
-unused-padding-spec = tie.close (tie.spec returns returns-2 returns-3 returns-4)
+unused-padding-spec =
+    tie.close
+    (tie.spec
+    (λ c. rw (c .before .if1 .taken))
+    (λ c. rw (c .before .if2 .taken))
+    (λ c. rw (c .before .if3 .taken))
+    returns-4)

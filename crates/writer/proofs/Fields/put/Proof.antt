@@ -1,9 +1,8 @@
 -- `Fields::put` meets its contract: each field is put right behind the one before, so the seven are put as one.
 -- Assumes nothing.
-use denote.Ref.{now}
 use borrow.Author.Needs.{needs}
 use Rattle.writer.specs.Answers.{fieldsAs}
-use Rattle.writer.proofs.Heads.{header-put}
+use Rattle.writer.proofs.Parts.{header-put}
 use Rattle.writer.proofs.Fields.put.Statement.{statement}
 use Rattle.writer.proofs.Fields.put.Tie as tie
 
@@ -27,7 +26,7 @@ returns c =
       size .put-u24 .ensures,
       version .put-u8 .ensures,
     )
-    (header-put (fieldsAs (start .args .self)) (start .args .n) (now (start .args .out)) (start .pre))
+    (header-put (fieldsAs (start .args .self)) _ _ (start .pre))
 
 pub put-spec : {M : Type 1} → statement M
 put-spec =

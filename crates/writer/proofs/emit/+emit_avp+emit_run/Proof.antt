@@ -4,28 +4,23 @@
 -- one more for a run: it falls from a run to its records and from a group inwards.
 -- Assumes nothing.
 use Prim.Native.Nat.{ℕ, _+_, _-_, _*_, _^_, _≤_, _<_}
-use mathlib.Core.Path.{_≡_, refl, sym, ap, _∙_}
-use mathlib.Core.List.{List}
+use mathlib.Core.Path.{_≡_, refl}
+use mathlib.Core.List.{List, append-nil}
 use native.Mathlib.Omega.{arith}
-use lib.ListN.{length, drop, length-drop}
+use lib.ListN.{length, drop, length-append, length-drop}
 use denote.Ref.{now}
 use borrow.Author.Needs.{needs}
 use borrow.Fn.Kinds.{In}
 use borrow.Fn.PlainCycle.{Measures, is, falls, and}
-use borrow.Rule.Slice.PartMut.{putMid, same-len-mid}
+use borrow.Rule.Slice.PartMut.{same-len-mid}
 use Rattle.octets.proofs.Lists.{rest}
-use Rattle.record.specs.Record as rfc
 use Rattle.record.specs.Record.{recordSize}
-use Rattle.record.specs.Forest.{Forest}
-use Rattle.record.specs.Table.{entryAt}
-use Rattle.rfc6733.specs.Writer.{forestBytes}
 use Rattle.round_trip.specs.Tables.{run, one}
 use Rattle.round_trip.proofs.Lengths.{head-low}
-use Rattle.round_trip.proofs.Turns.{run-end, run-above}
 use Rattle.record.proofs.Record.get.Reads as get-reads
 use Rattle.writer.specs.Emitting.{Done}
-use Rattle.rules.proofs.Records.{is-group, no-group}
-use Rattle.writer.proofs.Runs.{Going, none-put, Left, left, one-ready, one-put, Further, further, all-put, Group, group, group-done, Single, single, single-done}
+use Rattle.writer.proofs.Runs.{bytes-size, Going, none-put, one-put, all-put, group-long, group-done, leaf-room, leaf-done}
+use Rattle.writer.proofs.Steps.{AtFront, at-front, members, from, ends, ends-above, Step, step}
 use Rattle.writer.proofs.emit.emit_avp.Reads as emit-avp
 use Rattle.writer.proofs.emit.emit_avp.Kinds as emit-avp-kinds
 use Rattle.writer.proofs.emit.+emit_avp+emit_run.Lts-emit_avp as emit-avp-lts
@@ -75,30 +70,24 @@ module _ (t : ℕ) where
   abbrev Entry : Type 0
   Entry = emit-avp-lts.Start (emit-avp-calls t) (emit-avp-at t) emit-avp.Post
 
-  abbrev Grouped : Type 0
-  Grouped = emit-avp-lts.After-header-size (emit-avp-calls t) (emit-avp-at t) emit-avp.Post
+  abbrev Group : Type 0
+  Group = emit-avp-lts.After-header-size (emit-avp-calls t) (emit-avp-at t) emit-avp.Post
 
   abbrev Members : Type 0
   Members = emit-avp-lts.After-emit-run (emit-avp-calls t) (emit-avp-at t) emit-avp.Post
 
-  abbrev entry : Grouped → Entry
+  abbrev entry : Group → Entry
   entry e = e .before .before .before .before .before .before
 
-  abbrev this-one : Members → Grouped
-  this-one c = c .before .before .before .before
+  abbrev group : Members → Group
+  group c = c .before .before .before .before
 
-  abbrev header : Grouped → ℕ
+  abbrev header : Group → ℕ
   header e = e .header-size .result
 
-  -- the record, the table that it stands at the front of, its members, the pool and the output
-  abbrev this : Entry → rfc.Record
-  this b = b .args .r
-
+  -- the table, the pool and the output; and the record at the front of the table
   abbrev table : Entry → List ℕ
   table b = now (b .args .table)
-
-  abbrev members : Entry → Forest
-  members b = run (b .args .r .depth + 1) (drop recordSize (table b))
 
   abbrev pool : Entry → List ℕ
   pool b = now (b .args .pool)
@@ -106,92 +95,68 @@ module _ (t : ℕ) where
   abbrev output : Entry → List ℕ
   output b = now (b .args .out)
 
-  this-group : (e : Grouped) → let b = entry e in Group (pool b) (b .args .r .depth) (table b) (this b)
-  this-group e =
-      let b = entry e in
-      group _ _ _ (this b) (b .pre .1 .0 .0) refl (b .pre .1 .0 .1) (b .pre .1 .1 .valid)
-      (is-group (b .args .r) (e .before .if1 .taken))
+  front : (b : Entry) → AtFront (length (pool b)) (table b) (b .args .r)
+  front b = at-front _ _ _ (b .pre .1 .0 .0) (b .pre .1 .0 .1) (b .pre .1 .1 .valid)
 
-  header-fits : (e : Grouped) → header e ≤ length (output (entry e))
-  header-fits e = omega (arith, this-group e, e .header-size .ensures, entry e .pre .1 .1)
+  with-members : (e : Group)
+      → let b = entry e in
+      bytes-size (pool b) (one (table b)) ≡ header e + bytes-size (pool b) (members (b .args .r .depth) (table b))
+  with-members e = let b = entry e in omega (arith, e .header-size .ensures, group-long (pool b) (front b) (e .before .if1 .taken))
 
-  -- its members are put, and the output is as long as before
+  header-fits : (e : Group) → header e ≤ length (output (entry e))
+  header-fits e = omega (arith, with-members e, entry e .pre .1 .1)
+
+  -- its members are put
   members-put : (c : Members)
-      → let e = this-one c in
+      → let e = group c in
       let b = entry e in
-      Done (members b) (pool b) (c .emit-run .result) (drop (header e) (output b)) (c .emit-run .last .1 .1 .1 .0)
+      Done (members (b .args .r .depth) (table b)) (pool b) (c .emit-run .result) (drop (header e) (output b)) (c .emit-run .last .1 .1 .1 .0)
   members-put c =
-      let e = this-one c in
+      let e = group c in
       let b = entry e in
       rw (rest (table b) recordSize (b .pre .1 .0 .1), rest (output b) (header e) (header-fits e)) at (c .emit-run .ensures)
 
-  length-back : (c : Members)
-      → let e = this-one c in
-      let out = output (entry e) in
-      length (putMid (header e) (length out - header e) out (c .emit-run .last .1 .1 .1 .0)) ≡ length out
-  length-back c =
-      let e = this-one c in
-      let out = output (entry e) in
-      same-len-mid (header e) (length out - header e) out (c .emit-run .last .1 .1 .1 .0) (c .emit-run .kept .1 .1 .1 .0)
-
   -- so the sums fit
-  record Sums (c : Members) : Type 0 where
-    pub length-fits : header (this-one c) + c .emit-run .result .size < 16777216
-    pub count-fits : 1 + c .emit-run .result .records < 2 ^ 64
+  length-fits : (c : Members) → header (group c) + c .emit-run .result .size < 16777216
+  length-fits c = let e = group c in omega (arith, with-members e, members-put c, entry e .pre .1 .1)
 
-  sums : (c : Members) → Sums c
-  sums c =
-      let e = this-one c in
-      let b = entry e in
-      let g = this-group e in
-      let d = members-put c in
-      record {
-        length-fits = omega (arith, e .header-size .ensures, b .pre .1 .1);
-        count-fits = omega (arith, b .good .1 .0 .0);
-      }
-
-  this-single : (c : emit-avp-lts.Else1 (emit-avp-calls t) (emit-avp-at t) emit-avp.Post) → let b = c .before .before .before .before .before in Single (pool b) (table b) (this b)
-  this-single c =
-      let b = c .before .before .before .before .before in
-      single _ (b .args .r .depth) _ (this b) (b .pre .1 .0 .0) refl (b .pre .1 .0 .1) (b .pre .1 .1 .valid)
-      (no-group (b .args .r) (c .if1 .left))
+  count-fits : (c : Members) → 1 + c .emit-run .result .records < 2 ^ 64
+  count-fits c = let b = entry (group c) in omega (arith, front b, members-put c, b .good .1 .0 .0)
 
   emit-avp-emit-run-requires : emit-avp-lts.Need-emit-run-requires (emit-avp-calls t) (emit-avp-at t) emit-avp.Post
   emit-avp-emit-run-requires c κs =
       let e = c .before .before .before in
       let b = entry e in
-      let g = this-group e in
-      let h = e .header-size .ensures in
+      let sum = with-members e in
       let l = length-drop (header e) (output b) in
       rw (rest (table b) recordSize (b .pre .1 .0 .1), rest (output b) (header e) (header-fits e)) (
         omega (arith, b .pre, length-drop recordSize (table b)),
-        record { valid = g .valid; fits = omega (arith, b .pre .1 .1); short = omega (arith, b .pre .1 .1) },
+        record {
+          valid = front b .valid-inside (e .before .if1 .taken);
+          fits = omega (arith, b .pre .1 .1);
+          short = omega (arith, b .pre .1 .1);
+        },
       )
 
   emit-avp-put-head-requires : emit-avp-lts.Need-put-head-requires (emit-avp-calls t) (emit-avp-at t) emit-avp.Post
   emit-avp-put-head-requires c κs =
       let m = c .before .before .before .before in
-      let e = this-one m in
-      let l = length-back m in
-      let f = header-fits e in
-      (omega (arith, e .header-size .ensures), omega (arith, e .header-size .ensures, head-low (this (entry e))))
+      let e = group m in
+      let out = output (entry e) in
+      let kept = same-len-mid (header e) (length out - header e) out (m .emit-run .last .1 .1 .1 .0) (m .emit-run .kept .1 .1 .1 .0) in
+      omega (arith, header-fits e, e .header-size .ensures, head-low (entry e .args .r))
 
   emit-avp-returns : emit-avp-lts.Need-returns (emit-avp-calls t) (emit-avp-at t) emit-avp.Post
   emit-avp-returns c =
       let m = c .before .before .before .before .before .before .before .before in
-      let e = this-one m in
-      group-done _ _ _ (this (entry e)) (this-group e) _ _ _ _ (header e) _ (e .header-size .ensures) (header-fits e) refl
-      (members-put m) (c .before .before .before .put-head .ensures)
-
-  emit-avp-emit-leaf-requires : emit-avp-lts.Need-emit-leaf-requires (emit-avp-calls t) (emit-avp-at t) emit-avp.Post
-  emit-avp-emit-leaf-requires c κs =
-      let g = this-single (c .before) in
-      record { leaf = g .leaf; fits = omega (arith, c .before .before .before .before .before .before .pre .1 .1) }
+      let e = group m in
+      group-done _ (front (entry e)) (e .before .if1 .taken) (e .header-size .ensures) (header-fits e) refl (members-put m)
+      (c .before .before .before .put-head .ensures)
 
   emit-avp-returns-2 : emit-avp-lts.Need-returns-2 (emit-avp-calls t) (emit-avp-at t) emit-avp.Post
   emit-avp-returns-2 c =
-      let b = c .before .before .before .before .before .before .before .before .before in
-      single-done _ _ (this b) (this-single (c .before .before .before .before)) _ _ _ (c .before .before .emit-leaf .ensures)
+      let else = c .before .before .before .before in
+      leaf-done _ (front (else .before .before .before .before .before)) (else .if1 .left) (c .before .before .emit-leaf .ensures)
 
 -- ---- `emit_run`
 
@@ -202,13 +167,13 @@ abbrev emit-run-Inv-loop : emit-run-lts.InvT-loop
 emit-run-Inv-loop table pool depth out₀ records₀ size₀ out records size =
     (records * recordSize ≤ length table)
     × (length out ≡ length out₀)
-    × Going pool depth (run depth table) (drop (records * recordSize) table) records size out₀ out
+    × Going pool depth (run depth table) (from table records) records size out₀ out
 
 abbrev emit-run-μ-loop : emit-run-lts.MeasureT-loop
 emit-run-μ-loop table pool depth out₀ records₀ size₀ out records size = length table - records * recordSize
 
 module _ (t : ℕ) where
-  -- the function's entry, the head of the loop; a record that was read, one at the run's own depth, and one that is put
+  -- the function's entry, the head of the loop; a record at the run's own depth, and one that is put
   abbrev Start : Type 0
   Start = emit-run-lts.Start (emit-run-calls t) (emit-run-at t) emit-run.Post emit-run-Inv-loop emit-run-μ-loop
 
@@ -217,9 +182,6 @@ module _ (t : ℕ) where
 
   abbrev Found : Type 0
   Found = emit-run-lts.Else1 (emit-run-calls t) (emit-run-at t) emit-run.Post emit-run-Inv-loop emit-run-μ-loop
-
-  abbrev Read : Type 0
-  Read = emit-run-lts.After-get (emit-run-calls t) (emit-run-at t) emit-run.Post emit-run-Inv-loop emit-run-μ-loop
 
   abbrev One : Type 0
   One = emit-run-lts.After-emit-avp (emit-run-calls t) (emit-run-at t) emit-run.Post emit-run-Inv-loop emit-run-μ-loop
@@ -230,89 +192,65 @@ module _ (t : ℕ) where
   abbrev loop : Found → Loop
   loop c = c .before .before .before .before .before
 
-  -- the table, what is left of it, the run, and the pool
+  abbrev found : One → Found
+  found c = c .before .before .before
+
+  -- the table and the pool
   abbrev whole : Loop → List ℕ
   whole l = now (start l .args .table)
-
-  abbrev left-of : Loop → List ℕ
-  left-of l = drop (l .loop .records * recordSize) (whole l)
-
-  abbrev all : Loop → Forest
-  all l = run (start l .args .depth) (whole l)
 
   abbrev bytes-from : Loop → List ℕ
   bytes-from l = now (start l .args .pool)
 
-  room-left : (l : Loop) → Left (bytes-from l) (start l .args .depth) (all l) (left-of l) (l .loop .size) (now (start l .args .out)) (l .loop .out)
-  room-left l = left (start l .pre .1 .fits) (l .loop .inv .2)
-
   size-within : (l : Loop) → l .loop .size ≤ length (l .loop .out)
-  size-within l = omega (arith, room-left l, start l .pre .1)
+  size-within l = omega (arith, l .loop .inv .1, l .loop .inv .2 .passed, start l .pre .1)
 
-  record-read : (c : Read) → let l = c .before .before .before in c .get .result ≡ entryAt (left-of l)
-  record-read c = let l = c .before .before .before in rw (rest (whole l) (l .loop .records * recordSize) (l .loop .inv .0)) at (c .get .ensures)
-
-  depth-read : (c : Read) → let l = c .before .before .before in entryAt (left-of l) .depth ≡ c .get .result .depth
-  depth-read c = ap (λ (r : rfc.Record). r .depth) (sym (record-read c))
-
-  deep-enough : (c : Found) → let l = loop c in start l .args .depth ≤ entryAt (left-of l) .depth
-  deep-enough c = omega (arith, depth-read (c .before .before))
+  next : (c : Found)
+      → let l = loop c in
+      let depth = start l .args .depth in
+      let m = bytes-size (bytes-from l) in
+      Step m depth (length (bytes-from l)) (run depth (whole l)) (whole l) (l .loop .records) (l .loop .size) (c .before .before .get .result)
+  next c =
+      let l = loop c in
+      let read = c .before .before .get .ensures in
+      step (whole l) _ _ (omega arith) read (λ r i t. simp (append-nil, length-append)) (omega arith) (l .loop .inv .2 .passed)
 
   one-done : (c : One)
-      → let l = loop (c .before .before .before) in
-      Done (one (left-of l)) (bytes-from l) (c .emit-avp .result) (drop (l .loop .size) (l .loop .out)) (c .emit-avp .last .1 .1 .1 .0)
+      → let l = loop (found c) in
+      let here = from (whole l) (l .loop .records) in
+      Done (one here) (bytes-from l) (c .emit-avp .result) (drop (l .loop .size) (l .loop .out)) (c .emit-avp .last .1 .1 .1 .0)
   one-done c =
-      let l = loop (c .before .before .before) in
+      let l = loop (found c) in
       rw (rest (whole l) (l .loop .records * recordSize) (l .loop .inv .0), rest (l .loop .out) (l .loop .size) (size-within l))
       at (c .emit-avp .ensures)
-
-  gone-on : (c : One)
-      → let l = loop (c .before .before .before) in
-      Further (whole l) (l .loop .records) (l .loop .size) (c .emit-avp .result) (length (forestBytes (bytes-from l) (all l)))
-  gone-on c =
-      let f = c .before .before .before in
-      let l = loop f in
-      further _ _ _ _ _ _ _ _ (omega arith) (deep-enough f) (l .loop .inv .2) _ _ (one-done c) (start l .pre .1 .fits)
-
-  going : (c : One)
-      → let l = loop (c .before .before .before) in
-      let w = c .emit-avp .result in
-      let n = l .loop .records + w .records in
-      Going (bytes-from l) (start l .args .depth) (all l) (drop (n * recordSize) (whole l)) n (l .loop .size + w .size)
-      (now (start l .args .out))
-      (putMid (l .loop .size) (length (l .loop .out) - l .loop .size) (l .loop .out) (c .emit-avp .last .1 .1 .1 .0))
-  going c =
-      let f = c .before .before .before in
-      one-put _ _ _ _ _ _ _ _ (omega arith) (deep-enough f) (loop f .loop .inv .2) _ _ (one-done c)
 
   emit-run-returns : emit-run-lts.Need-returns (emit-run-calls t) (emit-run-at t) emit-run.Post emit-run-Inv-loop emit-run-μ-loop
   emit-run-returns c =
       let l = c .before .before .before .before .before in
-      let d = depth-read (c .before .before) in
-      let some = length-drop (l .loop .records * recordSize) (whole l) in
-      all-put _ _ _ _ _ _ _ (run-above _ _ (omega arith) (omega arith)) (l .loop .inv .2)
+      all-put (ends-above (whole l) _ _ (omega arith) (c .before .before .get .ensures) _ (omega arith)) (l .loop .inv .2)
 
   emit-run-emit-avp-requires : emit-run-lts.Need-emit-avp-requires (emit-run-calls t) (emit-run-at t) emit-run.Post emit-run-Inv-loop emit-run-μ-loop
   emit-run-emit-avp-requires c κs =
-      let f = c .before .before in
-      let l = loop f in
+      let s = next (c .before .before) in
+      let l = loop (c .before .before) in
       let b = start l in
-      let r = one-ready _ _ _ _ _ _ _ _ (omega arith) (deep-enough f) (l .loop .inv .2) (b .pre .1 .short) (b .pre .1 .fits) in
-      let some = length-drop (l .loop .records * recordSize) (whole l) in
-      rw (rest (whole l) (l .loop .records * recordSize) (l .loop .inv .0), rest (l .loop .out) (l .loop .size) (size-within l))
-      (omega (arith, b .pre), ((record-read (f .before .before), omega arith), rw (depth-read (f .before .before)) at r))
+      let left = length-drop (l .loop .size) (l .loop .out) in
+      rw (rest (whole l) (l .loop .records * recordSize) (l .loop .inv .0), rest (l .loop .out) (l .loop .size) (size-within l)) (
+        omega (arith, b .pre, length-drop (l .loop .records * recordSize) (whole l)),
+        (
+          (s .here-is, s .long),
+          record { valid = s .valid; fits = omega (arith, l .loop .inv .1, b .pre .1); short = omega (arith, b .pre .1) },
+        ),
+      )
 
   emit-run-loop-again : emit-run-lts.Need-loop-again (emit-run-calls t) (emit-run-at t) emit-run.Post emit-run-Inv-loop emit-run-μ-loop
   emit-run-loop-again c =
       let w = c .before .before .before .before in
-      let g = going w in
-      (gone-on w .fits, left (start (loop (w .before .before .before)) .pre .1 .fits) g .same, g)
-
-  emit-run-returns-2 : emit-run-lts.Need-returns-2 (emit-run-calls t) (emit-run-at t) emit-run.Post emit-run-Inv-loop emit-run-μ-loop
-  emit-run-returns-2 c =
-      let l = c .before in
-      let some = length-drop (l .loop .records * recordSize) (whole l) in
-      all-put _ _ _ _ _ _ _ (run-end _ _ (omega arith)) (l .loop .inv .2)
+      let l = loop (found w) in (
+        omega (arith, next (found w), one-done w),
+        search (needs, l .loop .inv .1),
+        one-put (next (found w)) (l .loop .inv .2) (one-done w),
+      )
 
 pub +emit-avp+emit-run-spec : {M : Type 1} → statement M
 +emit-avp+emit-run-spec =
@@ -328,18 +266,18 @@ pub +emit-avp+emit-run-spec : {M : Type 1} → statement M
     (λ c. entry t c .pre .1 .0 .1)
     (λ c. entry t c .pre .1 .0 .1)
     (λ c. search needs)
-    (λ c. omega (arith, this-group t (c .before .before)))
+    (λ c. omega (arith, front t (entry t (c .before .before)) .most))
     (λ c. header-fits t (c .before .before))
     (λ c. header-fits t (c .before .before))
     (λ c. search needs)
     (emit-avp-emit-run-requires t)
-    (λ c. omega (arith, sums t (c .before .before .before)))
-    (λ c. omega (arith, sums t (c .before .before .before)))
+    (λ c. omega (arith, length-fits t (c .before .before .before)))
+    (λ c. omega (arith, length-fits t (c .before .before .before)))
     (emit-avp-put-head-requires t)
-    (λ c. omega (arith, sums t (c .before .before .before .before .before .before .before .before)))
+    (λ c. omega (arith, count-fits t (c .before .before .before .before .before .before .before .before)))
     (λ c. search needs)
     (emit-avp-returns t)
-    (emit-avp-emit-leaf-requires t)
+    (λ c κs. let b = c .before .before .before .before .before .before in leaf-room _ (front t b) (c .before .if1 .left) (b .pre .1 .1 .fits))
     (λ c. search needs)
     (emit-avp-returns-2 t))
     (λ t.
@@ -349,7 +287,7 @@ pub +emit-avp+emit-run-spec : {M : Type 1} → statement M
     emit-run.Post
     emit-run-Inv-loop
     emit-run-μ-loop
-    (λ c. (omega arith, refl, none-put _ _ _ _ (c .before .before .before .pre .1 .valid)))
+    (λ c. (omega arith, refl, none-put (c .before .before .before .pre .1 .valid)))
     (λ c. omega (arith, c .before .loop .inv .0, start t (c .before) .good))
     (λ c. c .before .loop .inv .0)
     (λ c. c .before .loop .inv .0)
@@ -365,9 +303,9 @@ pub +emit-avp+emit-run-spec : {M : Type 1} → statement M
     (λ c. size-within t (loop t (c .before)))
     (λ c. search needs)
     (emit-run-emit-avp-requires t)
-    (λ c. omega (arith, gone-on t (c .before .before .before), start t (loop t (c .before .before .before .before .before .before)) .good))
-    (λ c. omega (arith, gone-on t (c .before .before .before .before), start t (loop t (c .before .before .before .before .before .before .before)) .pre .1))
-    (λ c. omega (arith, gone-on t (c .before .before .before .before)))
+    (λ c. let w = c .before .before .before in omega (arith, next t (found t w), one-done t w, start t (loop t (found t w)) .good))
+    (λ c. let w = c .before .before .before .before in omega (arith, next t (found t w), one-done t w, start t (loop t (found t w)) .pre .1))
+    (λ c. let w = c .before .before .before .before in omega (arith, next t (found t w), one-done t w))
     (emit-run-loop-again t)
     (λ c. search needs)
-    (emit-run-returns-2 t))
+    (λ c. let l = c .before in all-put (ends _ (whole t l) (l .loop .records) (omega arith)) (l .loop .inv .2)))

@@ -1,16 +1,17 @@
 -- `emit_leaf` meets its contract: header, data and padding are put one after the other.
 -- Assumes nothing.
-use Prim.Native.Nat.{ℕ, _+_, _-_}
+use Prim.Native.Nat.{ℕ, _+_, _-_, _≤_}
 use mathlib.Core.Path.{_≡_, refl, _∙_}
 use mathlib.Core.List.{List}
 use native.Mathlib.Omega.{arith}
 use lib.ListN.{length, length-take, length-drop}
-use mir.Syntax.{w64}
-use mir.Val.{Fits}
 use denote.Ref.{now}
 use borrow.Rule.Slice.PartMut.{putMid, same-len-mid}
 use borrow.Author.Needs.{needs}
-use Rattle.writer.proofs.Leaves.{Numbers, numbers, leaf-put}
+use Rattle.rfc6733.specs.Writer.{headOf}
+use Rattle.round_trip.proofs.Lengths.{head-low}
+use Rattle.record.specs.declared.Record.{Record}
+use Rattle.writer.proofs.Parts.{leaf-sizes, leaf-put}
 use Rattle.writer.proofs.emit.emit_leaf.Statement.{statement}
 use Rattle.writer.proofs.emit.emit_leaf.Tie as tie
 
@@ -27,11 +28,22 @@ put c = c .before .before .before .before .before
 abbrev copied : tie.After-struct-known3 → tie.After-copy
 copied c = c .before .before .before .before .before .before .before
 
--- the numbers of the record
+-- the numbers by which it lends parts, with the header's size h
+record Numbers (r : Record) (pool : List ℕ) (room h : ℕ) : Type 0 where
+  pub low : 8 ≤ h
+  pub head-is : h ≡ headOf r
+  pub long : h ≤ r .length
+  pub within : r .place + (r .length - h) ≤ length pool
+  pub few : r .padding ≤ 3
+  pub fits : r .length + r .padding ≤ room
+
 sizes : (c : tie.After-header-size)
     → let b = start c in
     Numbers (b .args .r) (now (b .args .pool)) (length (now (b .args .out))) (c .header-size .result)
-sizes c = numbers _ _ _ _ (start c .pre) (c .header-size .ensures)
+sizes c =
+    let b = start c in
+    let r = (b .args .r) in
+    omega (arith, c .header-size .ensures, head-low r, b .pre, leaf-sizes (now (b .args .pool)) r (b .pre .leaf))
 
 -- the output with the data is still as long as it was
 abbrev output : tie.After-copy → List ℕ
@@ -41,44 +53,14 @@ output c =
     putMid h (length l - h) l (c .copy .last .1 .0)
 
 copied-length : (c : tie.After-copy) → length (output c) ≡ length (now (start (sized (put c)) .args .out))
-copied-length c =
-    let h = sized (put c) .header-size .result in
-    let l = put c .put-head .last .1 .1 .0 in
-    same-len-mid h (length l - h) l (c .copy .last .1 .0) (c .copy .kept .1 .0) ∙ put c .put-head .kept .1 .1 .0
-
--- what is answered, the length with the padding, fits
-padding-fits : (b : tie.Start) → Fits w64 (b .args .r .padding)
-padding-fits b = search needs
-
-size-fits : (b : tie.Start) → Fits w64 (b .args .r .length + b .args .r .padding)
-size-fits b = omega arith
-
-copy-requires : tie.Need-copy-requires
-copy-requires c κs =
-    let p = c .before .before .before .before in
-    simp (length-take, length-drop) (omega (arith, sizes (sized p), p .put-head .kept .1 .1 .0))
-
-put-padding-requires : tie.Need-put-padding-requires
-put-padding-requires c κs =
-    let d = c .before .before .before in
-    simp (length-take, length-drop) (omega (arith, sizes (sized (put d)), copied-length d))
-
-same-length : tie.Need-same-length
-same-length c =
-    let padded = c .before .before .before in
-    let n = start (sized (put (copied c))) .args .r .length in
-    let l = output (copied c) in
-    same-len-mid n (length l - n) l (padded .put-padding .last .1 .0) (padded .put-padding .kept .1 .0) ∙ copied-length (copied c)
+copied-length c = search (same-len-mid, c .copy .kept .1 .0, put c .put-head .kept .1 .1 .0, _∙_)
 
 returns : tie.Need-returns
 returns c =
-    let padded = c .before .before .before in
     let d = copied c in
     let p = put d in
-    let b = start (sized p) in
-    leaf-put (b .args .r) (now (b .args .pool)) (now (b .args .out)) (b .pre) (p .put-head .last .1 .1 .0) _
-    (d .copy .last .1 .0) (padded .put-padding .last .1 .0) (sized p .header-size .result) (sized p .header-size .ensures)
-    (p .put-head .ensures) (p .put-head .kept .1 .1 .0) refl (d .copy .ensures .1) (copied-length d) (padded .put-padding .ensures)
+    leaf-put (start (sized p) .args .r) _ _ (start (sized p) .pre) (sized p .header-size .ensures) (p .put-head .ensures)
+    (p .put-head .kept .1 .1 .0) refl (d .copy .ensures .1) (copied-length d) (c .before .before .before .put-padding .ensures)
 
 pub emit-leaf-spec : {M : Type 1} → statement M
 emit-leaf-spec =
@@ -96,12 +78,12 @@ emit-leaf-spec =
     (λ c. omega (arith, sizes (sized (c .before .before .before))))
     (λ c. omega (arith, sizes (sized (c .before .before .before))))
     (λ c. search needs)
-    copy-requires
+    (λ c κs. let p = c .before .before .before .before in simp (length-take, length-drop) (omega (arith, sizes (sized p), p .put-head .kept)))
     (λ c. omega (arith, sizes (sized (put (c .before .before))), copied-length (c .before .before)))
     (λ c. omega (arith, sizes (sized (put (c .before .before))), copied-length (c .before .before)))
     (λ c. search needs)
-    put-padding-requires
-    (λ c. padding-fits (start (sized (put (copied c)))))
-    (λ c. size-fits (start (sized (put (copied c)))))
-    same-length
+    (λ c κs. let d = c .before .before .before in simp (length-take, length-drop) (omega (arith, sizes (sized (put d)), copied-length d)))
+    (λ c. omega (arith, start (sized (put (copied c))) .good))
+    (λ c. omega (arith, start (sized (put (copied c))) .good))
+    (λ c. search (needs, copied-length (copied c)))
     returns)

@@ -3,12 +3,11 @@
 use mathlib.Core.Path.{_≡_, sym, _∙_}
 use mathlib.Core.Bool.{true}
 use native.Mathlib.Omega.{arith}
-use denote.Ref.{now}
 use borrow.Author.Tests.{not-true, not-false}
 use borrow.Author.Needs.{needs}
 use Rattle.flags.specs.Flags.{bit}
 use Rattle.rfc6733.specs.Avp.{vendorBit}
-use Rattle.writer.proofs.Heads.{head-put, vendor-put, with-vendor}
+use Rattle.writer.proofs.Parts.{head-put, vendor-put, with-vendor}
 use Rattle.writer.proofs.emit.put_head.Statement.{statement}
 use Rattle.writer.proofs.emit.put_head.Tie as tie
 
@@ -21,10 +20,9 @@ returns c =
     let size = c .before .before .before .before in
     let flags = size .before .before .before .before in
     let code = flags .before .before .before .before in
-    let b = start size in
+    let none = sym (c .before .vendor-specific-flag .ensures) ∙ not-true _ (c .if1 .taken) in
     rw (size .put-u24 .ensures, flags .put-u8 .ensures, code .put-u32 .ensures)
-    (head-put (b .args .r) (b .args .n) (now (b .args .out)) (sym (c .before .vendor-specific-flag .ensures) ∙ not-true _ (c .if1 .taken))
-    (omega (arith, b .pre)))
+    (head-put (start size .args .r) _ _ none (start size .pre .1))
 
 vendor-there : (c : tie.Else1) → let r = (start (c .before .before .before .before) .args .r) in bit vendorBit (r .flags) ≡ true
 vendor-there c = sym (c .before .vendor-specific-flag .ensures) ∙ not-false _ (c .if1 .left)
@@ -37,14 +35,11 @@ put-u32-requires-2 c κs =
 returns-2 : tie.Need-returns-2
 returns-2 c =
     let vendor = c .before .before in
-    let asked = vendor .before .before in
-    let size = asked .before .before .before .before in
+    let size = vendor .before .before .before .before .before .before in
     let flags = size .before .before .before .before in
     let code = flags .before .before .before .before in
-    let b = start size in
-    let r = (b .args .r) in
     rw (vendor .put-u322 .ensures, size .put-u24 .ensures, flags .put-u8 .ensures, code .put-u32 .ensures)
-    (vendor-put r (b .args .n) (now (b .args .out)) (vendor-there asked) (omega (arith, b .pre, with-vendor r (vendor-there asked))))
+    (vendor-put (start size .args .r) _ _ (vendor-there (vendor .before .before)) (start size .pre .0))
 
 pub put-head-spec : {M : Type 1} → statement M
 put-head-spec =

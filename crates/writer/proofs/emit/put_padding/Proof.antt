@@ -3,8 +3,7 @@
 -- Assumes nothing.
 use mathlib.Core.Path.{sym, _∙_}
 use native.Mathlib.Omega.{arith}
-use lib.ListN.{take, length-take}
-use denote.Ref.{now}
+use lib.ListN.{length-take}
 use borrow.Author.Needs.{needs}
 use Rattle.round_trip.proofs.Lengths.{pad-length}
 use Rattle.octets.proofs.Lists.{copied}
@@ -16,17 +15,8 @@ slice-aggregate-copy c =
     let start = c .before .before .before .before in
     rw (c .before .before .to-be-u24 .ensures) (sym (pad-length (start .args .r) (start .pre .1)))
 
-copy-requires : tie.Need-copy-requires
-copy-requires c κs =
-    let start = c .before .before .before .before .before in
-    omega (arith, start .pre, length-take (start .args .r .padding) (c .before .before .before .to-be-u24 .result))
-
 returns : tie.Need-returns
-returns c =
-    let start = c .before .before .before .before .before .before .before .before in
-    let r = start .args .r in
-    let bytes = c .before .before .before .before .before .before .to-be-u24 in
-    c .before .before .copy .ensures .1 ∙ copied (take (r .padding) (bytes .result)) (now (start .args .out)) ∙ rw (bytes .ensures)
+returns c = c .before .before .copy .ensures .1 ∙ rw (copied, c .before .before .before .before .before .before .to-be-u24 .ensures)
 
 pub put-padding-spec : {M : Type 1} → statement M
 put-padding-spec =
@@ -36,6 +26,6 @@ put-padding-spec =
     (λ c. search needs)
     (λ c. search needs)
     slice-aggregate-copy
-    copy-requires
+    (λ c κs. simp length-take (omega arith))
     (λ c. search needs)
     returns)
