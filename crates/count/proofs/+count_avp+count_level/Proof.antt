@@ -118,12 +118,6 @@ module _ (t : ℕ) where
       let k = was-counts _ _ _ _ _ (with-members c) in
       omega (arith, within (dictionary b) (bytes b), b .good .1 .1 .0 .0)
 
-  count-avp-returns-2 : count-avp-lts.Need-returns-2 (count-avp-calls t) (count-avp-at t) count-avp.Post
-  count-avp-returns-2 c =
-      let e = c .before .before .before .before .before in
-      one-deep _ _ (entry e .pre .1 .1) _ (omega arith) (is-grouped e)
-      (was-deep _ _ (sym (c .enum-told .given .1) ∙ inner-counted (c .before .before)))
-
 -- ---- `count_level`
 
 abbrev count-level-calls : ℕ → count-level-lts.Claims
@@ -192,26 +186,6 @@ module _ (t : ℕ) where
       one-passed (loop u .loop .inv .1) (own (by (loop u)) (turned u) .split)
       (was-counts _ _ _ _ _ (sym (c .before .r .given .1) ∙ c .before .before .before .count-avp .ensures))
 
-  count-level-returns : count-level-lts.Need-returns (count-level-calls t) (count-level-at t) count-level.Post count-level-Inv-loop count-level-μ-loop
-  count-level-returns c =
-      let l = c .before .before in
-      let d = some-tried (by l) (drop (l .loop .at) (run l)) (some-left (c .before)) in
-      then-deep (l .loop .inv .1) (omega arith)
-
-  count-level-returns-3 : count-level-lts.Need-returns-3 (count-level-calls t) (count-level-at t) count-level.Post count-level-Inv-loop count-level-μ-loop
-  count-level-returns-3 c =
-      let u = c .before .before .before .before in
-      let j = own (by (loop u)) (turned u) .split in
-      let d = was-deep _ _ (sym (c .enum-told2 .given .1) ∙ c .before .before .count-avp .ensures) in
-      then-deep (loop u .loop .inv .1) (omega arith)
-
-  count-level-returns-4 : count-level-lts.Need-returns-4 (count-level-calls t) (count-level-at t) count-level.Post count-level-Inv-loop count-level-μ-loop
-  count-level-returns-4 c =
-      let l = c .before in
-      let F = avps (by l) in
-      then-ends (l .loop .inv .1) done (ap (tree F) (drop-of-length-le (run l) (c .loop-test .left)) ∙ tree-none F)
-      (omega arith) (omega arith) (omega arith)
-
 pub +count-avp+count-level-spec : {M : Type 1} → statement M
 +count-avp+count-level-spec =
     close μ-count-avp μ-count-level
@@ -227,14 +201,20 @@ pub +count-avp+count-level-spec : {M : Type 1} → statement M
     (λ c κs. search needs)
     (λ c. search needs)
     (λ c. search needs)
-    (count-avp-returns-2 t)
+    (λ c.
+    let e = c .before .before .before .before .before in
+    one-deep _ _ (entry t e .pre .1 .1) _ (omega arith) (is-grouped t e)
+    (was-deep _ _ (sym (c .enum-told .given .1) ∙ inner-counted t (c .before .before))))
     (λ c. omega (arith, sums-fit t (c .before)))
     (λ c. omega (arith, sums-fit t (c .before)))
     (λ c. with-members t (c .before)))
     (λ t.
     count-level-lts.spec (count-level-calls t) _ _ count-level-Inv-loop count-level-μ-loop
     (λ c. (omega arith, none-passed _ _))
-    (count-level-returns t)
+    (λ c.
+    let l = c .before .before in
+    let d = some-tried (by t l) (drop (l .loop .at) (run t l)) (some-left t (c .before)) in
+    then-deep (l .loop .inv .1) (omega arith))
     (λ c. search needs)
     (λ c. search needs)
     (λ c. search needs)
@@ -252,9 +232,15 @@ pub +count-avp+count-level-spec : {M : Type 1} → statement M
     (λ c κs. let o = own (by t (loop t (c .before))) (turned t (c .before)) in (omega arith, (o .is, o .exact, omega arith)))
     (λ c. search needs)
     (λ c. search needs)
-    (count-level-returns-3 t)
+    (λ c.
+    let u = c .before .before .before .before in
+    let j = own (by t (loop t u)) (turned t u) .split in
+    let d = was-deep _ _ (sym (c .enum-told2 .given .1) ∙ c .before .before .count-avp .ensures) in
+    then-deep (loop t u .loop .inv .1) (omega arith))
     (λ c. omega (arith, fits t (loop t (c .before .before .before .before .before)) (passed t c)))
     (λ c. omega (arith, fits t (loop t (c .before .before .before .before .before)) (passed t c)))
     (λ c. omega (arith, turned t (c .before .before .before .before .before)))
     (λ c. (turned t (c .before .before .before .before .before) .fits, passed t c))
-    (count-level-returns-4 t))
+    (λ c.
+    let l = c .before in
+    then-ends (l .loop .inv .1) done (rw (drop-of-length-le (run t l) (c .loop-test .left)) (tree-none _)) (omega arith) (omega arith) (omega arith)))
