@@ -6,8 +6,8 @@ use mathlib.Core.Path.{_≡_, refl, sym, ap, _∙_}
 use mathlib.Core.Bool.{Bool, true, false, cond}
 use mathlib.Core.List.{List}
 use native.Mathlib.Omega.{arith}
-use lib.ListN.{length, take, drop, length-take, length-drop}
-use lib.Seq.{drop-drop}
+use lib.ListN.{length, take, drop, length-drop}
+use lib.Seq.{drop-drop, length-take-le}
 use Rattle.octets.specs.Run.{item, after}
 use Rattle.octets.proofs.Lists.{rest}
 use Rattle.rfc6733.specs.Avp.{code, flags, avpLength, headSize, vendor, avpSize, avpRefusals, complete}
@@ -81,8 +81,6 @@ turn s at a h e =
     let hd = head (flags left) in
     let z = sizes left in
     let l = length-drop at s in
-    let hf = ap headSize (f .flags-is) in
-    let n = length-take (a .size) left in
     record {
       complete-here = p .0;
       is = p .1;
@@ -90,10 +88,10 @@ turn s at a h e =
       whole = w;
       fits = omega arith;
       some = omega arith;
-      header = omega arith;
+      header = rw (f .flags-is) (omega arith);
       padded = omega arith;
       next = sym (drop-drop (a .size) at s);
-      own-length = omega arith;
+      own-length = length-take-le (a .size) left (omega arith);
     }
 
 -- in the words of a run, whichever AVPs are entered

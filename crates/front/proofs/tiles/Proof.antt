@@ -42,9 +42,6 @@ loop-again c =
     let l = c .before .before .before .before .before .before .before in
     (t .fits, ap tiling (next-is (λ a. false) _ _ _ t) ∙ sym (tiling-more _ (t .complete-here)) ∙ l .loop .inv .1)
 
-returns-2 : tie.Need-returns-2 Inv-loop μ-loop
-returns-2 c = rw (drop-of-length-le _ (c .loop-test .left), tiling-none) at (c .before .loop .inv .1)
-
 pub tiles-spec : {M : Type 1} → statement M
 tiles-spec =
     tie.close
@@ -62,4 +59,4 @@ tiles-spec =
     (λ c. omega (arith, turned c))
     (λ c. omega (arith, turned c))
     loop-again
-    returns-2)
+    (λ c. rw (drop-of-length-le _ (c .loop-test .left), tiling-none) at (c .before .loop .inv .1)))

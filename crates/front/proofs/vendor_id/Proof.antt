@@ -14,12 +14,6 @@ use Rattle.front.proofs.vendor_id.Tie as tie
 vendor-there : (c : tie.Then1) → Vendored (now (c .before .before .before .before .args .s))
 vendor-there c = with-vendor _ (sym (c .before .vendor-specific-flag .ensures) ∙ c .if1 .taken)
 
-returns : tie.Need-returns
-returns c = read-at 4 _ 8 _ (c .be-u32 .ensures) ∙ sym (vendor-there (c .before .before .before .before .before) .vendor-is)
-
-returns-2 : tie.Need-returns-2
-returns-2 c = sym (without-vendor _ (sym (c .before .vendor-specific-flag .ensures) ∙ c .if1 .left))
-
 pub vendor-id-spec : {M : Type 1} → statement M
 vendor-id-spec =
     tie.close
@@ -31,5 +25,5 @@ vendor-id-spec =
     (λ c. omega (arith, vendor-there (c .before .before .before)))
     (λ c. omega (arith, vendor-there (c .before .before .before .before)))
     (λ c κs. search needs)
-    returns
-    returns-2)
+    (λ c. read-at 4 _ 8 _ (c .be-u32 .ensures) ∙ sym (vendor-there (c .before .before .before .before .before) .vendor-is))
+    (λ c. sym (without-vendor _ (sym (c .before .vendor-specific-flag .ensures) ∙ c .if1 .left))))

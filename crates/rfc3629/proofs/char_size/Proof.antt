@@ -48,9 +48,6 @@ test-4 c = first 4 utf8-4 (text-4 (c .before .before .before)) (omega arith) ∙
 
 -- ---- the needs
 
-returns : tie.Need-returns
-returns c = omega (arith, size-there (now (c .before .before .args .s)))
-
 returns-2 : tie.Need-returns-2
 returns-2 c =
     let s = now (c .before .before .before .before .before .args .s) in
@@ -61,42 +58,27 @@ returns-3 c =
     let s = text-2 (c .before) in
     from-2 (c .before) (short 2 utf8-2 refl s (omega arith)) (short 3 utf8-3 refl s (omega arith)) (short 4 utf8-4 refl s (omega arith))
 
-returns-4 : tie.Need-returns-4
-returns-4 c = from-2 (c .before .before .before .before) (test-2 (c .before) ∙ c .if4 .taken) refl refl
-
 returns-5 : tie.Need-returns-5
 returns-5 c = let s = text-3 (c .before) in from-3 (c .before) (short 3 utf8-3 refl s (omega arith)) (short 4 utf8-4 refl s (omega arith))
-
-returns-6 : tie.Need-returns-6
-returns-6 c = from-3 (c .before .before .before .before) (test-3 (c .before) ∙ c .if6 .taken) refl
-
-returns-7 : tie.Need-returns-7
-returns-7 c = from-4 (c .before) (short 4 utf8-4 refl (text-4 (c .before)) (omega arith))
-
-returns-8 : tie.Need-returns-8
-returns-8 c = from-4 (c .before .before .before .before) (test-4 (c .before) ∙ c .if8 .taken)
-
-returns-9 : tie.Need-returns-9
-returns-9 c = from-4 (c .before .before .before .before) (test-4 (c .before) ∙ c .if8 .left)
 
 pub char-size-spec : {M : Type 1} → statement M
 char-size-spec =
     tie.close
     (tie.spec
-    returns
+    (λ c. omega (arith, size-there (now (c .before .before .args .s))))
     (λ c. search needs)
     (λ c κs. search needs)
     returns-2
     returns-3
     (λ c. search needs)
     (λ c κs. search needs)
-    returns-4
+    (λ c. from-2 (c .before .before .before .before) (test-2 (c .before) ∙ c .if4 .taken) refl refl)
     returns-5
     (λ c. search needs)
     (λ c κs. search needs)
-    returns-6
-    returns-7
+    (λ c. from-3 (c .before .before .before .before) (test-3 (c .before) ∙ c .if6 .taken) refl)
+    (λ c. from-4 (c .before) (short 4 utf8-4 refl (text-4 (c .before)) (omega arith)))
     (λ c. search needs)
     (λ c κs. search needs)
-    returns-8
-    returns-9)
+    (λ c. from-4 (c .before .before .before .before) (test-4 (c .before) ∙ c .if8 .taken))
+    (λ c. from-4 (c .before .before .before .before) (test-4 (c .before) ∙ c .if8 .left)))

@@ -54,9 +54,6 @@ returns c =
     stuck (c .before .before .before .before .before .before .before .before .before .before .loop .inv) (omega arith)
     (sym (c .if3 .taken) ∙ char-size-is (c .before))
 
-returns-2 : tie.Need-returns-2 Inv-loop μ-loop
-returns-2 c = ended (c .before .loop .inv) (c .loop-test .left)
-
 pub is-utf8-spec : {M : Type 1} → statement M
 is-utf8-spec =
     tie.close
@@ -84,4 +81,4 @@ is-utf8-spec =
     (λ c. omega (arith, loop-again-3 c))
     (λ c. omega (arith, loop-again-3 c))
     loop-again-3
-    returns-2)
+    (λ c. ended (c .before .loop .inv) (c .loop-test .left)))

@@ -5,8 +5,5 @@ use borrow.Author.Needs.{needs}
 use Rattle.rfc3629.proofs.is_utf8_2.Statement.{statement}
 use Rattle.rfc3629.proofs.is_utf8_2.Tie as tie
 
-returns : tie.Need-returns
-returns c = simp (and-true, or-false) (cc)
-
 pub is-utf8-2-spec : {M : Type 1} → statement M
-is-utf8-2-spec = tie.close (tie.spec (λ c κs. search needs) (λ c κs. search needs) returns)
+is-utf8-2-spec = tie.close (tie.spec (λ c κs. search needs) (λ c κs. search needs) (λ c. simp (and-true, or-false) (cc)))

@@ -7,9 +7,6 @@ use Rattle.value.proofs.Shown.{too-few, enough}
 use Rattle.value.proofs.Read.fixed_32.Statement.{statement}
 use Rattle.value.proofs.Read.fixed_32.Tie as tie
 
-returns-2 : tie.Need-returns-2
-returns-2 c = enough 4 _ _ _ _ _ (omega arith) (c .before .of-32 .ensures) (c .before .before .be-u32 .ensures) (c .raised .ensures)
-
 pub fixed-32-spec : {M : Type 1} → statement M
 fixed-32-spec =
     tie.close
@@ -25,4 +22,4 @@ fixed-32-spec =
     (λ c κs. search needs)
     (λ c. search needs)
     (λ c κs. search needs)
-    returns-2)
+    (λ c. enough 4 _ _ _ _ _ (omega arith) (c .before .of-32 .ensures) (c .before .before .be-u32 .ensures) (c .raised .ensures)))

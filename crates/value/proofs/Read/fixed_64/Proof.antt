@@ -7,9 +7,6 @@ use Rattle.value.proofs.Shown.{too-few, enough}
 use Rattle.value.proofs.Read.fixed_64.Statement.{statement}
 use Rattle.value.proofs.Read.fixed_64.Tie as tie
 
-returns-2 : tie.Need-returns-2
-returns-2 c = enough 8 _ _ _ _ _ (omega arith) (c .before .of-64 .ensures) (c .before .before .be-u64 .ensures) (c .raised .ensures)
-
 pub fixed-64-spec : {M : Type 1} → statement M
 fixed-64-spec =
     tie.close
@@ -29,4 +26,4 @@ fixed-64-spec =
     (λ c κs. search needs)
     (λ c. search needs)
     (λ c κs. search needs)
-    returns-2)
+    (λ c. enough 8 _ _ _ _ _ (omega arith) (c .before .of-64 .ensures) (c .before .before .be-u64 .ensures) (c .raised .ensures)))
