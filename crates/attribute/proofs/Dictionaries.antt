@@ -1,7 +1,6 @@
 -- The kinds by code. A code that a table doesn't list is Unhandled, by induction over the table; the codes that it lists are one
 -- computation. So the sawp dictionary is the table of docs/FORMAT.md, 5.1, at every code, and the table of a reading with what is beside
 -- it is the reading's dictionary.
--- Assumes nothing.
 use Prim.Native.Nat.{ℕ, max, _≤_, _<_}
 use mathlib.Core.Path.{_≡_, refl, sym, ap, _∙_, fun-ext}
 use mathlib.Core.Bool.{Bool, true, false, not, cond, _||_}

@@ -1,6 +1,5 @@
 -- The names of attributes by number: a number that a row has gets that row's name, by computation; a number that no row has gets
 -- Unknown, by induction over the rows.
--- Assumes nothing.
 use Prim.Native.Nat.{ℕ}
 use mathlib.Core.Path.{_≡_, refl}
 use mathlib.Core.Bool.{false}

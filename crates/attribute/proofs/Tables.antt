@@ -1,6 +1,5 @@
 -- A function of numbers as a table of its first values: an entry is the function's value, by induction over the size of the table.
 -- Two functions are equal where they agree at each number of a list and off it.
--- Assumes nothing.
 use Prim.Native.Nat.{ℕ, zero, suc, compare·suc-suc}
 use mathlib.Core.Path.{_≡_, refl}
 use mathlib.Core.Bool.{Bool, true, false, cond}

@@ -1,5 +1,4 @@
 -- The names of attributes (RFC 6733, section 4.5, in the order of its table), and the readings as dictionaries.
--- Assumes nothing: these are definitions.
 use Prim.Native.Nat.{ℕ}
 use mathlib.Core.Bool.{cond}
 use mathlib.Core.List.{List, [], _∷_}

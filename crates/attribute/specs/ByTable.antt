@@ -1,6 +1,5 @@
 -- A dictionary as the code has it: a table of kinds by code, and beside it whether vendors count and how an Address is read. Any bytes
 -- are such a table.
--- Assumes nothing: these are definitions.
 use Prim.Native.Nat.{ℕ}
 use mathlib.Core.Bool.{Bool, true, false, not, cond, _||_}
 use mathlib.Core.List.{List}

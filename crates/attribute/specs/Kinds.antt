@@ -1,5 +1,4 @@
 -- The kinds by code in the sawp reading, as the table of docs/FORMAT.md, 5.1, has them.
--- Assumes nothing: these are definitions.
 use Prim.Native.Nat.{ℕ}
 use mathlib.Core.Bool.{cond}
 use mathlib.Core.List.{List, [], _∷_}

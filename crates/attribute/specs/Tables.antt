@@ -1,5 +1,4 @@
 -- A function of numbers as a table of its first values.
--- Assumes nothing: this is a definition.
 use Prim.Native.Nat.{ℕ, zero, suc}
 use mathlib.Core.List.{List, [], _∷_}
 

@@ -1,6 +1,5 @@
 -- The contract of `parse_avps` names one outcome: it can be read back from its answer, since what an acceptance returns is told by its
 -- fields and a refusal by its number and amount.
--- Assumes nothing.
 use mathlib.Core.Path.{_≡_, refl, sym, ap, _∙_}
 use Rattle.refusal.specs.Answer.{Answer, accepted, refused}
 use Rattle.rfc6733.specs.Decoder as definition

@@ -1,6 +1,5 @@
 -- What was counted of a run leads to the answer, in the order of the refusals; and a store that was filled and cleared is the one that
 -- the answer leaves.
--- Assumes nothing.
 use Prim.Native.Nat.{ℕ, _+_, _≤_, _<_}
 use mathlib.Core.Path.{_≡_, sym, _∙_}
 use mathlib.Core.Bool.{true}

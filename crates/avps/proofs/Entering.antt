@@ -1,6 +1,5 @@
 -- A run is entered exactly where the value of the data is Grouped, which the kind alone tells: then the dictionary says Grouped and
 -- the data tile, and the value's flags are its members'. Elsewhere the value is what `Value::new` reads, and there are no members.
--- Assumes nothing.
 use Prim.Native.Nat.{ℕ, _+_}
 use mathlib.Core.Path.{_≡_, refl, sym, ap, _∙_}
 use mathlib.Core.Bool.{Bool, true, false}

@@ -1,6 +1,5 @@
 -- The loop over a run: what has been written and what is left to write. Each turn puts the records of one AVP right after those
 -- before it, so at the end the records of the run stand at the front of the store.
--- Assumes nothing.
 use Prim.Native.Nat.{ℕ, _+_, _-_, _*_, _≤_, _<_}
 use mathlib.Core.Path.{_≡_, refl, sym, ap, _∙_}
 use mathlib.Core.Bool.{true, false}

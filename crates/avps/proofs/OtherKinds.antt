@@ -1,6 +1,5 @@
 -- No other kind reads as Grouped: data are read as the kind that the dictionary has, as Unhandled, or as an Address. For any
 -- dictionary this asks only that an Address is not read as Grouped, which holds with its family and without.
--- Assumes nothing.
 use Prim.Native.Nat.{ℕ}
 use mathlib.Core.Path.{_≡_, refl}
 use mathlib.Core.Bool.{Bool, true, false, cond}

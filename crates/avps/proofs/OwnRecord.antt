@@ -1,6 +1,5 @@
 -- One AVP from its own bytes: its data and its padding are the parts that the code lends, so the record that is put before its
 -- members' is the definition's, and the two together are the records of the AVP.
--- Assumes nothing.
 use Prim.Native.Nat.{ℕ, _+_, _-_, _≤_, _<_}
 use mathlib.Core.Path.{_≡_, sym, ap, ap₂, _∙_}
 use mathlib.Core.Bool.{not}

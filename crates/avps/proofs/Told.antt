@@ -1,5 +1,4 @@
 -- What a caller of `parse_avps` knows where it has matched the answer.
--- Assumes nothing.
 use Prim.Native.Nat.{ℕ}
 use mathlib.Core.Path.{_≡_}
 use mathlib.Core.List.{List}

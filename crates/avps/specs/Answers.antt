@@ -1,6 +1,5 @@
 -- What reading a run answers (docs/FORMAT.md, 7): the refusals that a message has past its header, in their order. Before
 -- them is the limit's, and the run's own, where a place would not fit its four bytes.
--- Assumes nothing: these are definitions.
 use Prim.Native.Nat.{ℕ, _+_, _-_, _^_}
 use mathlib.Core.List.{List, _∷_, _++_}
 use lib.ListN.{length}

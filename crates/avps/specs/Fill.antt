@@ -1,5 +1,4 @@
 -- What the readers of a run, an AVP and a value ask and leave.
--- Assumes nothing: these are definitions.
 use Prim.Native.Nat.{ℕ, _+_, _-_, _*_, _≤_}
 use mathlib.Core.Path.{_≡_}
 use mathlib.Core.List.{List, _++_}

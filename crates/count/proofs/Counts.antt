@@ -1,5 +1,4 @@
 -- Laws of `countOf`: the answer from the facts, in the order of the refusals, and the facts from an acceptance.
--- Assumes nothing.
 use Prim.Native.Nat.{ℕ, _≤_, _<_}
 use mathlib.Core.Path.{_≡_, sym, ap}
 use mathlib.Core.Bool.{true, false, not}

@@ -1,6 +1,5 @@
 -- The parts of a run that are lent: an AVP's own bytes, which are the first item of what is left of the run and so exact, and its
 -- payload, from the end of its header to its length.
--- Assumes nothing.
 use Prim.Native.Nat.{ℕ, _+_, _-_, _≤_}
 use mathlib.Core.Path.{_≡_, ap, _∙_}
 use mathlib.Core.Bool.{Bool}

@@ -1,6 +1,5 @@
 -- Laws of `levelOf`: the answer from the facts and the facts from an answer, what a loop over a run has counted so far, and the
 -- count of one AVP from that of its payload. The counts fit, since no more headers are tried than there are bytes.
--- Assumes nothing.
 use Prim.Native.Nat.{ℕ, _+_, _-_, _≤_, _<_, max}
 use mathlib.Core.Path.{_≡_, refl, sym, _∙_}
 use mathlib.Core.Bool.{Bool, true, false, cond}

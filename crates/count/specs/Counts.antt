@@ -1,5 +1,4 @@
 -- What counting a run answers: with so many levels left, and by a depth limit.
--- Assumes nothing: these are definitions.
 use Prim.Native.Nat.{ℕ}
 use mathlib.Core.Bool.{cond}
 use mathlib.Core.List.{_++_}

@@ -1,6 +1,5 @@
 -- What is known of a message once its header was accepted: its body is the run that the definition reads, so the message is refused as
 -- the body is, and else accepted with the body's counts.
--- Assumes nothing.
 use Prim.Native.Nat.{ℕ, _-_, _≤_}
 use mathlib.Core.Path.{_≡_, sym, ap, _∙_}
 use mathlib.Core.Bool.{true}

@@ -1,6 +1,5 @@
 -- What is known of one AVP that is complete: its own bytes are the run of one that the definition reads, and that run tiles, so the
 -- answer is the run's.
--- Assumes nothing.
 use Prim.Native.Nat.{ℕ, _≤_}
 use mathlib.Core.Path.{_≡_, refl, sym, ap, _∙_}
 use mathlib.Core.Bool.{Bool, true, false}

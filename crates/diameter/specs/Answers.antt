@@ -1,5 +1,4 @@
 -- The answer of the decoder of messages, as one of the definition.
--- Assumes nothing: these are definitions.
 use Prim.Native.Nat.{ℕ}
 use mathlib.Core.Path.{_≡_}
 use mathlib.Core.Bool.{true}

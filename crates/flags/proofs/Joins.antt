@@ -1,5 +1,4 @@
 -- Laws of joined flags: associative, commutative, with 0, below 16. `lib.Bits` has all but the first, which goes down by halves.
--- Assumes nothing.
 use Prim.Native.Nat.{ℕ, zero, suc, _+_, _*_, _/_, _%_, _≤_, _<_, max}
 use mathlib.Core.Path.{_≡_, sym, ap₂, _∙_}
 use mathlib.Core.Bool.{Bool, true, false}

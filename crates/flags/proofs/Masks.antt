@@ -1,5 +1,4 @@
 -- A flags byte by masks, as the code asks it, and by division, as the definition says it. Said once over the bit.
--- Assumes nothing.
 use Prim.Native.Nat.{ℕ, zero, suc, _+_, _-_, _*_, _/_, _%_, _^_, _<_}
 use mathlib.Core.Path.{_≡_}
 use mathlib.Core.Bool.{not}

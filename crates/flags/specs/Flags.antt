@@ -1,5 +1,4 @@
 -- Bits of a flags byte, and the error flags (docs/FORMAT.md, 3), a number below 16.
--- Assumes nothing: these are definitions.
 use Prim.Native.Nat.{ℕ, _/_, _%_, _^_}
 use mathlib.Core.Bool.{Bool, cond}
 use lib.Dec.{eqb}

@@ -1,5 +1,4 @@
 -- An AVP's fields and sizes as the code finds them, byte by byte: they are those of the definition.
--- Assumes nothing.
 use Prim.Native.Nat.{ℕ, _+_, _-_, _≤_}
 use mathlib.Core.Path.{_≡_, sym, ap, _∙_}
 use mathlib.Core.Bool.{true, false}

@@ -1,6 +1,5 @@
 -- What an answer of `first_avp` says of the bytes that it was asked of, for loops over a run: `Whole` is answered exactly where an AVP
 -- is complete, and then what is left after it is the run from its size on.
--- Assumes nothing.
 use Prim.Native.Nat.{ℕ, _+_, _-_, _≤_, _<_}
 use mathlib.Core.Path.{_≡_, refl, sym, ap, _∙_}
 use mathlib.Core.Bool.{Bool, true, false, cond}

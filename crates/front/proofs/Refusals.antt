@@ -1,6 +1,5 @@
 -- `firstOf` and `parsedOf` by cases: which facts lead to which answer, in the order of the refusals. Each refusal is the tests that
 -- fail, in their order, and then the one that holds. A complete AVP passes them all.
--- Assumes nothing.
 use Prim.Native.Nat.{ℕ, _-_, _≤_, _<_}
 use mathlib.Core.Path.{_≡_, refl, sym, _∙_}
 use mathlib.Core.Bool.{Bool, true, false}

@@ -1,5 +1,4 @@
 -- What reading the AVP at the front of a slice answers, as an answer of the definition.
--- Assumes nothing: these are definitions.
 use Prim.Native.Nat.{ℕ}
 use mathlib.Core.Bool.{cond}
 use mathlib.Core.List.{List}

@@ -1,6 +1,5 @@
 -- `headerAlone` by cases: which facts lead to which answer, in the order of the refusals. Each case is the tests that fail, in their
 -- order, and then the one that holds.
--- Assumes nothing.
 use Prim.Native.Nat.{ℕ, _-_, _≤_, _<_}
 use mathlib.Core.Path.{_≡_, ap, _∙_}
 use mathlib.Core.Bool.{false, not}

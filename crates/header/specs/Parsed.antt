@@ -1,5 +1,4 @@
 -- What reading a header answers, as an answer of the definition.
--- Assumes nothing: these are definitions.
 use Rattle.refusal.specs.Answer.{Answer, accepted, refused}
 use Rattle.rfc6733.specs.Header as rfc
 use Rattle.rfc6733.specs.Decoder.{Message}

@@ -1,6 +1,5 @@
 -- A number in decimal, as the definition has it and as the digits of the kit: both take the last digit first, and the kit's count is the
 -- fewest that hold the number. A number below a power of ten has no more digits than that power has zeros.
--- Assumes nothing.
 use Prim.Native.Nat.{ℕ, zero, suc, _-_, _/_, _%_, _^_, _≤_, _<_}
 use mathlib.Core.Path.{_≡_, refl, ap, _∙_}
 use mathlib.Core.Bool.{Bool, true, false, cond}

@@ -1,6 +1,5 @@
 -- The text of an input, by what the decoder answers: the records that it stored are read back whole, so their lines are those of the
 -- definition, and the text fits.
--- Assumes nothing.
 use Prim.Native.Nat.{ℕ, suc, _+_, _*_, _-_, _≤_, min}
 use mathlib.Core.Path.{_≡_, refl, sym, ap, ap₂, _∙_}
 use mathlib.Core.Bool.{Bool, true, false}

@@ -1,6 +1,5 @@
 -- A text piece by piece, as a loop puts it: a line number by number, each with a space after it and the last with a newline, and the
 -- lines of a table record by record.
--- Assumes nothing.
 use Prim.Native.Nat.{ℕ, suc, _+_, _*_, _-_, _<_}
 use mathlib.Core.Path.{_≡_, sym}
 use mathlib.Core.List.{List, [], _∷_, _++_, append-assoc, append-nil}

@@ -1,6 +1,5 @@
 -- How long a line is at most: the digits of each of its numbers, and a byte after each; so a record's line takes no more than 64 bytes.
--- Assumes nothing.
-use Prim.Native.Nat.{ℕ, _*_, _^_, _≤_, _<_}
+use Prim.Native.Nat.{_*_, _^_, _≤_, _<_}
 use mathlib.Core.List.{List, [], _∷_}
 use native.Mathlib.Omega.{arith}
 use lib.ListN.{length, length-append}

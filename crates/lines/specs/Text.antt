@@ -1,5 +1,4 @@
 -- What the functions that put text ask for, and what they leave.
--- Assumes nothing: these are definitions.
 use Prim.Native.Nat.{ℕ, zero, suc, _*_, _≤_}
 use mathlib.Core.List.{List, [], _∷_, _++_}
 use lib.ListN.{length, drop}

@@ -1,6 +1,5 @@
 -- What an answer of `length` says of the two numbers that it compares. There are two answers, and each follows from one way that
 -- the test goes.
--- Assumes nothing.
 use Prim.Native.Nat.{ℕ, _-_, _≤_, _<_}
 use mathlib.Core.Path.{_≡_, refl}
 use mathlib.Core.Bool.{Bool, true, false, cond}

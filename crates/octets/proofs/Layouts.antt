@@ -1,5 +1,4 @@
 -- One law for every layout: what is written is read back, if its numbers fit; and what is read, written again, is the bytes that it was read from.
--- Assumes nothing.
 use Prim.Native.Nat.{ℕ, zero, suc, _+_, _%_, _≤_, _<_, _^_}
 use mathlib.Core.Path.{_≡_, refl}
 use mathlib.Core.List.{List, [], _∷_, _++_, append-assoc}

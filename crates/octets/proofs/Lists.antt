@@ -1,5 +1,4 @@
 -- Parts of a list, as code lends them, and bytes over the front of others.
--- Assumes nothing.
 use Prim.Native.Nat.{ℕ, _+_, _-_, _≤_}
 use mathlib.Core.Path.{_≡_, refl}
 use mathlib.Core.List.{List, [], _++_, append-cancel-left, append-assoc, append-nil}

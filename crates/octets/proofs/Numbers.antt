@@ -1,6 +1,5 @@
 -- Laws of numbers in bytes. A number of one byte more is the number before times 256 and the last byte, so every law is an
 -- induction over the width whose step is one line of arithmetic: writing and reading are inverse, and a number looks at its own bytes alone.
--- Assumes nothing.
 use Prim.Native.Nat.{ℕ, zero, suc, _+_, _*_, _/_, _%_, _^_, _≤_, _<_}
 use mathlib.Core.Path.{_≡_, refl, sym, ap, ap₂, _∙_}
 use mathlib.Core.List.{List, [], _∷_, _++_, append-assoc, append-nil}

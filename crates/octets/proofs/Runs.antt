@@ -1,6 +1,5 @@
 -- The equations of `tree`, with no count in them, and induction over a run. A complete item takes a byte at least, so what is
 -- left after it is shorter; its payload is shorter too. Any count from the length on therefore gives the same tree.
--- Assumes nothing.
 use Prim.Native.Nat.{ℕ, zero, suc, _-_, _≤_, _<_}
 use mathlib.Core.Path.{_≡_, refl, ap, ap₂, _∙_}
 use mathlib.Core.Bool.{Bool, true, false}

@@ -1,5 +1,4 @@
 -- The bytes of a length that are at hand.
--- Assumes nothing: these are definitions.
 use Prim.Native.Nat.{ℕ, _-_}
 use mathlib.Core.Bool.{cond}
 use lib.Dec.{ltb}

@@ -1,5 +1,4 @@
 -- Numbers in bytes, the highest byte first (RFC 6733, section 3: network byte order), said once over the width; and layouts of them.
--- Assumes nothing: these are definitions.
 use Prim.Native.Nat.{ℕ, zero, suc, _+_, _*_, _/_, _%_, _^_, _<_}
 use mathlib.Core.Path.{_≡_}
 use mathlib.Core.List.{List, [], _∷_, _++_}

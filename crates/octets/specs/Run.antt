@@ -1,6 +1,5 @@
 -- A run of items that lie end to end in a list of bytes, read as a tree. What an item is, is a parameter: a character of
 -- UTF-8 (RFC 3629) and an AVP of Diameter (RFC 6733) are two kinds of item.
--- Assumes nothing: these are definitions.
 use Prim.Native.Nat.{ℕ, zero, suc, _+_, max}
 use mathlib.Core.Bool.{Bool, true, false}
 use mathlib.Core.List.{List, [], _∷_, _++_}

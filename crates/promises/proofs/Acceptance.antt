@@ -1,5 +1,4 @@
 -- An outcome of `diameter::parse` whose answer is an acceptance holds a message, whose counts are the definition's.
--- Assumes nothing.
 use mathlib.Core.Path.{_≡_, refl, ap}
 use Rattle.refusal.specs.Answer.{accepted}
 use Rattle.rfc6733.specs.Decoder as definition

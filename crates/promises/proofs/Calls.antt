@@ -1,6 +1,5 @@
 -- Calls of the functions that may change what is lent, with their parameters by name and in the source's order. Each is the contract of
 -- the function as the check reads it from the source (`Post`), at its arguments, its answer, and what it may change as it leaves it.
--- Assumes nothing: these are definitions.
 use Prim.Native.Nat.{ℕ}
 use mathlib.Core.Bool.{Bool}
 use mathlib.Core.List.{List}

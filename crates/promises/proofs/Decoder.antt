@@ -1,6 +1,5 @@
 -- Demand 3 of `diameter::parse` itself: six times the headers tried is at most the length less 20, and there are messages of every such
 -- length at which it is just that. The contract says that the answer is the definition's, of which both are laws (rfc6733/proofs/Demand3).
--- Assumes nothing.
 use Prim.Native.Nat.{ℕ, _+_, _-_, _*_, _≤_}
 use mathlib.Core.Path.{_≡_, sym, ap, _∙_}
 use native.Mathlib.Omega.{arith}

@@ -1,6 +1,5 @@
 -- Every public function of every crate has one outcome: no second result meets its contract at the same arguments. `Post` is the
 -- contract as the check reads it from the source, so a contract that says less no longer proves its line here.
--- Assumes nothing.
 use Prim.Native.Nat.{ℕ}
 use mathlib.Core.Path.{_≡_, sym, _∙_}
 use mathlib.Core.Bool.{Bool}

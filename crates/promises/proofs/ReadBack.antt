@@ -1,7 +1,6 @@
 -- What `writer::write` wrote, `diameter::parse` accepts, with the same codes, flags, vendors, data and padding at the top level as the
 -- table's records of depth 1 (docs/FORMAT.md, 8.4). Between
 -- the contracts stands the reading back of the definition (round_trip/proofs/ReadBack).
--- Assumes nothing.
 use Prim.Native.Nat.{ℕ, _≤_}
 use mathlib.Core.Path.{_≡_, sym, ap, _∙_}
 use mathlib.Core.Bool.{true}

@@ -1,6 +1,5 @@
 -- Demand 1 of the functions themselves: a refusal changes no lent byte. Each contract says that the store or the output is what the
 -- definition leaves of it (`stored`, `output`), and that is what was lent wherever the answer is a refusal.
--- Assumes nothing.
 use Prim.Native.Nat.{ℕ, _≤_}
 use mathlib.Core.Path.{_≡_, refl, _∙_}
 use mathlib.Core.Bool.{Bool}

@@ -1,7 +1,6 @@
 -- Demand 2, the second half, of the two functions themselves: what `diameter::parse` accepted, in either reading, `writer::write` gives
 -- back byte for byte, from the header's fields, the records that the store holds and the message. Between the contracts stands the
 -- round trip of the definition (round_trip/proofs/RoundTrip).
--- Assumes nothing.
 use Prim.Native.Nat.{ℕ, _*_, _≤_}
 use mathlib.Core.Path.{_≡_, sym, ap, _∙_}
 use mathlib.Core.List.{List, _++_}

@@ -1,5 +1,4 @@
 -- A byte that is absent counts as 0, so zeros after a table change nothing that is read from it.
--- Assumes nothing.
 use Prim.Native.Nat.{ℕ, zero, suc, _+_}
 use mathlib.Core.Path.{_≡_, refl, _∙_}
 use mathlib.Core.List.{List, [], _∷_, _++_}

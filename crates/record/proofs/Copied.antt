@@ -1,6 +1,5 @@
 -- A list copied over the front of another, element by element: `paste` of the library with nothing before it. One store takes the
 -- copy of i elements to that of one more, and the copy of all is `over`.
--- Assumes nothing.
 use Prim.Native.Nat.{ℕ, _+_, _≤_, _<_}
 use mathlib.Core.Path.{_≡_, sym, ap, _∙_}
 use mathlib.Core.List.{List}

@@ -1,5 +1,4 @@
 -- The fields of a record by single bytes, as the code reads them: each is the number at its place.
--- Assumes nothing.
 use Prim.Native.Nat.{ℕ}
 use mathlib.Core.Path.{_≡_}
 use mathlib.Core.List.{List}

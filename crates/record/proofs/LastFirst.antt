@@ -1,6 +1,5 @@
 -- The bytes of a list put into a store one by one, the last first. No byte that is put changes the length of the store, and all of
 -- them are the list turned round, put as one.
--- Assumes nothing.
 use Prim.Native.Nat.{ℕ, zero, suc, _+_, _-_}
 use mathlib.Core.Path.{_≡_, _∙_}
 use mathlib.Core.List.{List, reverse}

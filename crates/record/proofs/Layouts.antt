@@ -1,5 +1,4 @@
 -- A record takes 32 bytes, and n records 32 times n: the widths of its layout add up.
--- Assumes nothing.
 use Prim.Native.Nat.{ℕ, _+_, _*_}
 use mathlib.Core.Path.{_≡_, refl, sym, ap, _∙_}
 use mathlib.Core.List.{List, [], _∷_, _++_, append-assoc}

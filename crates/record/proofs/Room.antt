@@ -1,6 +1,5 @@
 -- The answer of `put` and its store, by whether there is room: with none the store stays; with room the two parts of the layout,
 -- put one after the other, are the record's bytes.
--- Assumes nothing.
 use Prim.Native.Nat.{ℕ, _≤_, _<_}
 use mathlib.Core.Path.{_≡_, sym}
 use mathlib.Core.Bool.{true, false}

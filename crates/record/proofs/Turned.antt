@@ -1,5 +1,4 @@
 -- The bytes of a number turned round: a number that is read from them has just these bytes, since writing gives back what was read.
--- Assumes nothing.
 use Prim.Native.Nat.{ℕ, zero, suc, _<_}
 use mathlib.Core.Path.{_≡_, ap, _∙_}
 use mathlib.Core.List.{List, [], _∷_, reverse, reverseAux}

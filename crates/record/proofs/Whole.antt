@@ -1,5 +1,4 @@
 -- The whole record at the front of a table: the fields that the writer takes, and the error flags and the value besides.
--- Assumes nothing.
 use Prim.Native.Nat.{ℕ}
 use mathlib.Core.Path.{_≡_, sym, ap, ap₂, _∙_}
 use mathlib.Core.List.{List}

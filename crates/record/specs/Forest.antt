@@ -1,5 +1,4 @@
 -- A table of records as a forest: each record with its members under it. It is built from the last record on, with no count.
--- Assumes nothing: these are definitions.
 use Prim.Native.Nat.{ℕ, _+_}
 use mathlib.Core.Bool.{cond}
 use mathlib.Core.List.{List, [], _∷_, _++_}

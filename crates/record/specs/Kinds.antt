@@ -1,5 +1,4 @@
 -- Kinds: what the data of a record are (docs/FORMAT.md, 4.1, after RFC 6733, sections 4.2 and 4.3), each by its number.
--- Assumes nothing: these are definitions.
 use Prim.Native.Nat.{ℕ}
 
 abbrev pub unhandled : ℕ

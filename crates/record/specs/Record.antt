@@ -1,5 +1,4 @@
 -- A record and its bytes (docs/FORMAT.md, 6).
--- Assumes nothing: these are definitions.
 use Prim.Native.Nat.{ℕ}
 use mathlib.Core.List.{List, [], _∷_, _++_}
 use lib.ListN.{getD}

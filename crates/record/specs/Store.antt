@@ -1,5 +1,4 @@
 -- A store that is lent for records: how many it has room for, and what it holds after an answer (docs/FORMAT.md, 6.3).
--- Assumes nothing: these are definitions.
 use Prim.Native.Nat.{ℕ, _-_, _/_}
 use mathlib.Core.Bool.{cond}
 use mathlib.Core.List.{List, _++_}

@@ -1,5 +1,4 @@
 -- A table of records as the writers take it.
--- Assumes nothing: these are definitions.
 use Prim.Native.Nat.{ℕ, zero, suc, _/_}
 use mathlib.Core.List.{List, [], _∷_}
 use lib.ListN.{length, drop}

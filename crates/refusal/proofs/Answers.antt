@@ -1,5 +1,4 @@
 -- An acceptance is given exactly where no refusal is, and returns what it was to return.
--- Assumes nothing.
 use Prim.Native.Nat.{ℕ, _≤_}
 use mathlib.Core.Path.{_≡_, refl, sym, ap, _∙_}
 use mathlib.Core.Bool.{Bool, true, false, cond, not, _&&_}
@@ -8,7 +7,7 @@ use native.Mathlib.Omega.{arith}
 use lib.Dec.{ltb}
 use borrow.Author.Tests.{ltb-false, le-ltb, not-true, not-false}
 use Rattle.octets.proofs.Runs.{false-true}
-use Rattle.refusal.specs.Answer.{Refusal, Answer, accepted, refused, Test, answer, passes}
+use Rattle.refusal.specs.Answer.{Refusal, accepted, refused, Test, answer, passes}
 
 pub not-accepted : {A : Type 0} {why : Refusal} {x : A} → refused why ≡ accepted x → ⊥
 not-accepted e = let z : _≡_ {A = ℕ} 0 1 = cc in omega arith

@@ -1,5 +1,4 @@
 -- The answers (docs/FORMAT.md, 7): an acceptance with what it returns, or a refusal.
--- Assumes nothing: these are definitions.
 use mathlib.Core.Bool.{Bool, true, cond, not, _&&_}
 use mathlib.Core.List.{List, [], _∷_}
 use Rattle.refusal.specs.declared.Refusal as declared

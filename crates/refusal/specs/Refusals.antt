@@ -1,5 +1,4 @@
 -- The number and the amount of each refusal (docs/FORMAT.md, 7.1). One that has no amount has 0.
--- Assumes nothing: these are definitions.
 use Prim.Native.Nat.{ℕ}
 use Rattle.refusal.specs.Answer.{Refusal}
 use Rattle.refusal.specs.declared.Refusal.the-variants.{Incomplete, NotVersion, BadLength, NotTiled, TooDeep, NoRecords, BadDepth, BadHeader, BadTable, TooLong, NoRoom}

@@ -1,7 +1,6 @@
 -- Laws of the definition. A row of ranges matches only where there is a byte for each range, and it looks at no byte after
 -- those; so a character is there, and its size depends on its own bytes alone. From these come the steps of a text that is read
 -- character by character.
--- Assumes nothing.
 use Prim.Native.Nat.{ℕ, zero, suc, _+_, _≤_, _<_}
 use mathlib.Core.Path.{_≡_, refl, sym, ap, _∙_}
 use mathlib.Core.Bool.{Bool, true, false, cond, not, _&&_, false≢true, and-eq-true-iff, and-false, and-true, or-false}

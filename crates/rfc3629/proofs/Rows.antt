@@ -1,5 +1,4 @@
 -- The code joins its tests from the left and the definition from the right. Joined either way, tests that are equal one by one are equal.
--- Assumes nothing.
 use mathlib.Core.Path.{_≡_}
 use mathlib.Core.Bool.{Bool, true, false, _&&_, _||_, and-assoc, or-assoc, and-true, or-false}
 

@@ -1,5 +1,4 @@
 -- ASCII at the front of a text, which the check passes many bytes at a time.
--- Assumes nothing: these are definitions.
 use Prim.Native.Nat.{ℕ, zero, suc}
 use mathlib.Core.Bool.{Bool, true, _&&_}
 use mathlib.Core.List.{List}

@@ -1,5 +1,4 @@
 -- Well-formed UTF-8: the syntax of RFC 3629, section 4, in the order in which it stands there.
--- Assumes nothing: these are definitions.
 use Prim.Native.Nat.{ℕ}
 use mathlib.Core.Bool.{Bool, true, false, cond, not, _&&_, _||_}
 use mathlib.Core.List.{List, [], _∷_}

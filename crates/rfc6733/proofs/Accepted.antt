@@ -1,5 +1,4 @@
 -- What is known of a message that is accepted: every refusal's test, turned round.
--- Assumes nothing.
 use Prim.Native.Nat.{ℕ, _≤_}
 use mathlib.Core.Path.{_≡_}
 use mathlib.Core.Bool.{true}
@@ -14,7 +13,7 @@ use Rattle.rfc6733.specs.Dictionary.{Dictionary}
 use Rattle.rfc6733.specs.Records.{avps}
 use Rattle.rfc6733.specs.Decoder.{Message, messageBody, messageRecords, messageRefusals, messageOf, decoded}
 use Rattle.refusal.proofs.Answers.{passes-append, passed}
-use Rattle.rfc6733.proofs.Tests.{eq-is, tests}
+use Rattle.refusal.proofs.Tests.{eq-is, tests}
 use Rattle.rfc6733.proofs.Decoded.{allowed-most}
 
 pub record Headed (s : List ℕ) : Type 0 where

@@ -1,7 +1,6 @@
 -- A run is its first AVP alone and what follows it: every count of the run is that of the one joined with that of the other. An
 -- AVP's own bytes are a run of one, so a reader of AVPs has the same contract as a reader of runs. The records of one AVP are its own
 -- and then those of the run that is entered in it: it is no group, a group that tiles, or one that does not.
--- Assumes nothing.
 use Prim.Native.Nat.{ℕ, _+_, _≤_, _<_, max}
 use mathlib.Core.Path.{_≡_, sym, ap, _∙_}
 use mathlib.Core.Bool.{Bool, true, false, cond}
@@ -17,7 +16,7 @@ use Rattle.rfc6733.specs.Dictionary.{Dictionary}
 use Rattle.rfc6733.specs.Records.{avps, errors, records, recordCount, avpKind, valueOf, ownErrors, recordOf, tiling, groupValue}
 use Rattle.flags.proofs.Joins.{join-zero}
 use Rattle.rfc6733.proofs.Complete.{complete-whole, whole-complete}
-use Rattle.rfc6733.proofs.Tests.{decide}
+use Rattle.refusal.proofs.Tests.{decide}
 use Rattle.rfc6733.proofs.Items.{sound, item-same, item-length, item-whole}
 use native.Mathlib.Nat.{add-zero}
 use lib.Dec.{eqb}

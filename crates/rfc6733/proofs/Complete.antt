@@ -1,6 +1,5 @@
 -- What a complete AVP is: docs/FORMAT.md, 1.5, as a consequence of the refusals in order. Its header is two or three
 -- words, so with its padding it is a whole number of words, and at least two.
--- Assumes nothing.
 use Prim.Native.Nat.{ℕ, _+_, _-_, _%_, _≤_}
 use mathlib.Core.Path.{_≡_, refl}
 use mathlib.Core.Bool.{Bool, true, false, cond}
@@ -9,7 +8,7 @@ use native.Mathlib.Omega.{arith}
 use lib.ListN.{length}
 use Rattle.flags.specs.Flags.{bit}
 use Rattle.rfc6733.specs.Avp.{flags, avpLength, vendorBit, headSize, dataSize, padding, avpSize, avpRefusals, complete, Exact}
-use Rattle.rfc6733.proofs.Tests.{tests}
+use Rattle.refusal.proofs.Tests.{tests}
 
 -- a header is two or three words
 pub record Head (f : ℕ) : Type 0 where

@@ -1,6 +1,5 @@
 -- `decoded` and `avpAlone` by cases: which facts lead to which answer, in the order of the refusals. Both start with the limit and
 -- what stands at the front; past them the answer is the run's own.
--- Assumes nothing.
 use Prim.Native.Nat.{ℕ, _≤_, _<_}
 use mathlib.Core.Path.{_≡_, sym, _∙_}
 use mathlib.Core.Bool.{true, false}

@@ -2,7 +2,6 @@
 -- length less 20 (`Tried`); and messages of 20 + 12k bytes reach that for every k whose length fits 24 bits: k failing groups of 12
 -- bytes try two headers each and have a record each, in every dictionary that takes Failed-AVP as Grouped. The tree of such a run is
 -- a chain of k groups, so all counts are inductions over k.
--- Assumes nothing.
 use Prim.Native.Nat.{ℕ, _+_, _-_, _*_, _≤_, zero, suc}
 use mathlib.Core.Path.{_≡_, refl, ap, _∙_}
 use mathlib.Core.List.{List, _++_}
@@ -29,7 +28,7 @@ use Rattle.rfc6733.specs.Extremal.{failingGroups, extremal}
 use Rattle.refusal.proofs.Answers.{accepts, passes-append}
 use Rattle.rfc6733.proofs.Complete.{whole-complete}
 use Rattle.rfc6733.proofs.Items.{sound}
-use Rattle.rfc6733.proofs.Tests.{tests}
+use Rattle.refusal.proofs.Tests.{tests}
 use Rattle.rfc6733.proofs.Messages.{message-read}
 
 -- ---- a run of failing groups

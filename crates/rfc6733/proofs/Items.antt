@@ -1,6 +1,5 @@
 -- AVPs are items that a run may have: a complete one has at least 8 bytes, all there, and its data are shorter than it. Its
 -- fields are those that stand at the front of what is left of the run, since they lie within its size.
--- Assumes nothing.
 use Prim.Native.Nat.{ℕ, _≤_}
 use mathlib.Core.Path.{_≡_, ap, _∙_}
 use mathlib.Core.Bool.{Bool, true}
@@ -14,7 +13,7 @@ use Rattle.octets.proofs.Numbers.{be-take}
 use Rattle.octets.proofs.Runs.{Sound}
 use Rattle.flags.specs.Flags.{bit}
 use Rattle.rfc6733.specs.Avp.{code, flags, avpLength, vendorBit, headSize, vendor, dataSize, avpSize, payload, complete}
-use Rattle.rfc6733.proofs.Tests.{decide}
+use Rattle.refusal.proofs.Tests.{decide}
 use Rattle.rfc6733.proofs.Complete.{head, Whole, sizes, complete-whole}
 
 -- a and s have the same AVP at the front

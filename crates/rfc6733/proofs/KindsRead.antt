@@ -1,6 +1,5 @@
 -- What holds of the kind that data are read as, of Unhandled and of Address holds of the kind of what is read: the kind of a value is
 -- always one of these three. So a law of kinds is shown of three numbers, and not of each way to read.
--- Assumes nothing.
 use Prim.Native.Nat.{ℕ}
 use mathlib.Core.Bool.{Bool, true, false, cond}
 use mathlib.Core.List.{List}

@@ -1,4 +1,3 @@
-pub mod Tests
 pub mod Listed
 pub mod Complete
 pub mod Items

@@ -1,6 +1,5 @@
 -- One of several numbers, as a `match` tells it, is one of them by the test, and none of them is none; the default of a match is none
 -- of those before it. Each is an induction over the list.
--- Assumes nothing.
 use Prim.Native.Nat.{ℕ}
 use mathlib.Core.Path.{_≡_, refl, sym}
 use mathlib.Core.Bool.{Bool, true, false, cond, _||_, or-assoc, or-true}

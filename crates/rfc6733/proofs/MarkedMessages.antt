@@ -1,5 +1,4 @@
 -- P1 to P13 (docs/FORMAT.md, 10), in both readings, by one computation of the definition.
--- Assumes nothing.
 use mathlib.Core.Path.{_≡_, refl}
 use mathlib.Core.List.{List, map}
 use Rattle.octets.specs.Octets.{be}

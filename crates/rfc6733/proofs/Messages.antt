@@ -1,6 +1,5 @@
 -- A message that the writer's definition makes has a header that is not refused and states its length, and its AVPs are the
 -- body that it was made of: each field of the header is read back where it was packed.
--- Assumes nothing.
 use Prim.Native.Nat.{ℕ, _+_, _-_, _≤_}
 use mathlib.Core.Path.{_≡_, _∙_}
 use mathlib.Core.Bool.{true}
@@ -13,7 +12,7 @@ use Rattle.octets.proofs.Numbers.{length-pack, read-field}
 use Rattle.refusal.specs.Answer.{passes}
 use Rattle.rfc6733.specs.Header.{messageLength, headerRefusals}
 use Rattle.rfc6733.specs.Decoder.{messageBody}
-use Rattle.rfc6733.proofs.Tests.{eq-is, tests}
+use Rattle.refusal.proofs.Tests.{eq-is, tests}
 use Rattle.rfc6733.specs.Writer.{Fields, most24, headerFields, messageBytes}
 
 pub record Read (s body : List ℕ) : Type 0 where

@@ -1,6 +1,5 @@
 -- A run's error flags are below 16 in both readings: each flag is, and joining keeps it so. And what is read of bytes is a number
 -- of eight bytes at most. For any dictionary this asks only that it is so of an Address.
--- Assumes nothing.
 use Prim.Native.Nat.{ℕ, _^_, _≤_, _<_}
 use mathlib.Core.Bool.{Bool, true, false, cond, not}
 use mathlib.Core.Logic.{inl, inr}
@@ -17,7 +16,7 @@ use Rattle.rfc6733.specs.Value.{Value, value, fixed, text, dataAs}
 use Rattle.record.specs.Kinds.{unhandled}
 use Rattle.rfc6733.specs.Dictionary.{Dictionary, familyAddress, bareAddress, rfc, sawp}
 use Rattle.rfc6733.specs.Records.{avpKind, valueOf, ownErrors, errors}
-use Rattle.rfc6733.proofs.Tests.{decide}
+use Rattle.refusal.proofs.Tests.{decide}
 use Rattle.flags.proofs.Joins.{join-small, flag-small}
 
 -- a value that was read of s: its flags are below 16, and its number fits eight bytes

@@ -1,6 +1,5 @@
 -- Laws of a run's records, over any dictionary: how many there are does not depend on it, nor on place and depth, and is at most
 -- the headers tried; places and depths shift. Each is an induction over the tree.
--- Assumes nothing.
 use Prim.Native.Nat.{ℕ, _+_, _≤_}
 use mathlib.Core.Path.{_≡_, refl}
 use mathlib.Core.Logic.{inl, inr}
@@ -13,7 +12,7 @@ use Rattle.rfc6733.specs.Avp as avp
 use Rattle.rfc6733.specs.Value.{Value}
 use Rattle.rfc6733.specs.Dictionary.{Dictionary}
 use Rattle.record.specs.Record.{Record}
-use Rattle.rfc6733.proofs.Tests.{decide}
+use Rattle.refusal.proofs.Tests.{decide}
 use Rattle.rfc6733.specs.Records.{valueOf, recordOf, groupValue, records, recordCount}
 
 pub records-count : (D : Dictionary) (place depth : ℕ) (t : Tree) → length (records D place depth t) ≡ recordCount t

@@ -1,5 +1,4 @@
 -- Whether AVPs tile does not depend on which of them are entered; and `tiling` step by step.
--- Assumes nothing.
 use Prim.Native.Nat.{ℕ, _<_}
 use mathlib.Core.Path.{_≡_, refl, ap}
 use mathlib.Core.Bool.{Bool, true, false, cond}
@@ -11,7 +10,7 @@ use Rattle.octets.proofs.Runs.{tree-none, tree-step, tree-broken, tree-plain, b
 use Rattle.rfc6733.specs.Avp.{complete}
 use Rattle.rfc6733.specs.Dictionary.{Dictionary}
 use Rattle.rfc6733.specs.Records.{avps, unentered, tiling}
-use Rattle.rfc6733.proofs.Tests.{decide}
+use Rattle.refusal.proofs.Tests.{decide}
 use Rattle.rfc6733.proofs.Items.{sound}
 
 -- a node tiles where its item is complete and what follows tiles

@@ -1,7 +1,6 @@
 -- Demand 3, the bound: six times the headers tried is at most the length of a run that tiles, for any dictionary.
 -- A run that does not tile ends in one header more, of at least one byte, so there six times the count is at most its length in
 -- whole words and two. A group pays for those two by its own header, of eight bytes at least, of which its own count takes six.
--- Assumes nothing.
 use Prim.Native.Nat.{ℕ, _+_, _-_, _*_, _/_, _%_, _≤_, _<_}
 use mathlib.Core.Path.{_≡_, ap, _∙_}
 use mathlib.Core.Bool.{Bool, true, false}
@@ -15,7 +14,7 @@ use Rattle.rfc6733.specs.Avp.{flags, headSize, dataSize, padding, avpSiz
 use Rattle.rfc6733.specs.Dictionary.{Dictionary}
 use Rattle.rfc6733.specs.Records.{avps}
 use Rattle.rfc6733.proofs.Complete.{head, Whole, sizes, complete-whole}
-use Rattle.rfc6733.proofs.Tests.{decide}
+use Rattle.refusal.proofs.Tests.{decide}
 use Rattle.rfc6733.proofs.Items.{sound, item-same, payload-length}
 
 -- so many bytes in whole words. It stays shut below these laws, so that `omega` sees no quotient

@@ -1,5 +1,4 @@
 -- The AVP (RFC 6733, section 4.1): its fields, its size with padding, and how it is refused.
--- Assumes nothing: these are definitions.
 use Prim.Native.Nat.{ℕ, _+_, _-_, _%_, _^_}
 use mathlib.Core.Path.{_≡_}
 use mathlib.Core.Bool.{Bool, true, cond}

@@ -1,5 +1,4 @@
 -- What each way of decoding answers (docs/FORMAT.md, 7), and of which records.
--- Assumes nothing: these are definitions.
 use Prim.Native.Nat.{ℕ, _-_}
 use mathlib.Core.Bool.{Bool, not, _&&_}
 use mathlib.Core.List.{List, [], _∷_, _++_}

@@ -1,6 +1,5 @@
 -- Dictionaries: which kind an AVP has by its code and vendor, and how an Address is read. The RFC reading and the sawp reading
 -- are two of them. Departures are numbered as in docs/DIFFERENCES.md.
--- Assumes nothing: these are definitions.
 use Prim.Native.Nat.{ℕ}
 use mathlib.Core.Bool.{cond}
 use mathlib.Core.List.{List, [], _∷_}

@@ -1,5 +1,4 @@
 -- The dump (docs/FORMAT.md, 9): the numbers of each line, and the text that they make.
--- Assumes nothing: these are definitions.
 use Prim.Native.Nat.{ℕ, zero, suc, _+_, _/_, _%_}
 use mathlib.Core.Bool.{cond}
 use mathlib.Core.List.{List, [], _∷_, _++_}

@@ -1,6 +1,5 @@
 -- One AVP by its code, its vendor and its data: its value, and the run that is entered in it. The contracts of the readers say
--- what they do in these words; `proofs/Entered` shows that they are the words of the records.
--- Assumes nothing: these are definitions.
+-- what they do in these words; `proofs/Alone` shows that they are the words of the records.
 use Prim.Native.Nat.{ℕ}
 use mathlib.Core.Bool.{cond, _&&_}
 use mathlib.Core.List.{List}

@@ -1,5 +1,4 @@
 -- The messages that reach demand 3's bound: k groups of 12 bytes, each with a member that is not complete.
--- Assumes nothing: these are definitions.
 use Prim.Native.Nat.{ℕ, zero, suc}
 use mathlib.Core.List.{List, [], _++_}
 use Rattle.rfc6733.specs.Marked.{failing}

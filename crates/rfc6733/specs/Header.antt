@@ -1,5 +1,4 @@
 -- The header of a message (RFC 6733, section 3): its fields, its flags, and how it is refused.
--- Assumes nothing: these are definitions.
 use Prim.Native.Nat.{ℕ, _-_, _%_, _^_}
 use mathlib.Core.Bool.{not}
 use mathlib.Core.List.{List, [], _∷_}

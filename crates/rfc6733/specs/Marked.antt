@@ -1,5 +1,4 @@
 -- The marked messages (docs/FORMAT.md, 10), P1 to P13: each with its limits and what the dump shows.
--- Assumes nothing: these are definitions.
 use Prim.Native.Nat.{ℕ}
 use mathlib.Core.List.{List, [], _∷_, _++_}
 use lib.ListN.{take, replicate}

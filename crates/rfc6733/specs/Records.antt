@@ -1,5 +1,4 @@
 -- The records of a run (docs/FORMAT.md, 6), a group before its members.
--- Assumes nothing: these are definitions.
 use Prim.Native.Nat.{ℕ, _+_}
 use mathlib.Core.Bool.{Bool, false, cond, not}
 use mathlib.Core.List.{List, [], _∷_, _++_}

@@ -1,5 +1,4 @@
 -- The signed numbers of the RFC reading: Enumerated (RFC 6733, section 4.3.1, derived from Integer32), and a Time in Unix seconds.
--- Assumes nothing: these are definitions.
 use Prim.Native.Nat.{ℕ, _^_}
 use mathlib.Core.Bool.{cond}
 use lib.Dec.{ltb}

@@ -1,5 +1,4 @@
 -- What each kind makes of an AVP's data (docs/FORMAT.md, 4.3 to 4.6, after RFC 6733, sections 4.2 and 4.3).
--- Assumes nothing: these are definitions.
 use Prim.Native.Nat.{ℕ}
 use mathlib.Core.Bool.{Bool, false, cond, _||_}
 use mathlib.Core.List.{List, [], _∷_}

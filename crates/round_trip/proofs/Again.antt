@@ -1,6 +1,5 @@
 -- An AVP's own bytes, made again from its record: the header's fields are written where they were read, the data stand after them,
 -- and the padding is held as a number. The record keeps the rules, and its numbers fit.
--- Assumes nothing.
 use Prim.Native.Nat.{ℕ, _+_, _%_, _^_, _≤_, _<_}
 use mathlib.Core.Path.{_≡_, refl}
 use mathlib.Core.Bool.{true}
@@ -22,7 +21,7 @@ use Rattle.rfc6733.specs.Records.{recordOf}
 use Rattle.record.specs.Table.{bare}
 use Rattle.rfc6733.specs.Writer.{headOf, statedData, avpBytes, headFields, padBytes}
 use Rattle.rfc6733.proofs.Complete.{sizes, exact-sizes}
-use Rattle.rfc6733.proofs.Tests.{decide}
+use Rattle.refusal.proofs.Tests.{decide}
 use Rattle.rfc6733.proofs.Items.{payload-length}
 use Rattle.round_trip.specs.Rules.{Good}
 use Rattle.round_trip.specs.Tables.{Fits}

@@ -1,6 +1,5 @@
 -- Reading back what is written for a record that keeps the rules: it is a complete AVP, no byte more, with the record's own code,
 -- flags, vendor, data and padding, since each field is read where it was packed.
--- Assumes nothing.
 use Prim.Native.Nat.{ℕ, _+_, _-_, _%_, _^_, _<_}
 use mathlib.Core.Path.{_≡_, refl, sym, ap}
 use mathlib.Core.Logic.{inl, inr}
@@ -17,7 +16,7 @@ use Rattle.record.specs.Record.{Record, recordLayout}
 use Rattle.record.specs.Table.{bare}
 use Rattle.rfc6733.specs.Writer.{isGroup, headOf, avpBytes, headFields, padBytes}
 use Rattle.rfc6733.proofs.Complete.{sizes, whole-complete}
-use Rattle.rfc6733.proofs.Tests.{decide}
+use Rattle.refusal.proofs.Tests.{decide}
 use Rattle.round_trip.specs.Rules.{Good}
 use Rattle.round_trip.specs.Tables.{Fits}
 use Rattle.round_trip.specs.Tops.{topOf, topRecord}

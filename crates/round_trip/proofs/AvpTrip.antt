@@ -1,6 +1,5 @@
 -- The round trip of one AVP before what follows it: its record keeps the rules and fits, and its bytes are made again from the
 -- record and from its data, which are the members' bytes of a group that tiles and stand at the record's place otherwise.
--- Assumes nothing.
 use Prim.Native.Nat.{ℕ, _+_, _%_, _^_, _≤_, _<_}
 use mathlib.Core.Path.{_≡_, refl, sym, ap, _∙_}
 use mathlib.Core.Bool.{true, false}
@@ -20,7 +19,7 @@ use Rattle.rfc6733.specs.Writer.{headOf, statedData, forestBytes, bodyOf}
 use Rattle.rfc6733.specs.Records.{recordOf}
 use Rattle.record.specs.Table.{bare}
 use Rattle.rfc6733.proofs.Complete.{exact-sizes}
-use Rattle.rfc6733.proofs.Tests.{decide}
+use Rattle.refusal.proofs.Tests.{decide}
 use Rattle.rfc6733.proofs.Items.{payload-length}
 use Rattle.round_trip.specs.Tables.{AllFit}
 use Rattle.round_trip.specs.Trip.{Ungrouped}

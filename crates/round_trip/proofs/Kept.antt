@@ -1,7 +1,6 @@
 -- The parts of a valid table's forest at a depth. The forest and each part of it are kept, since those rules look at one record at a
 -- time. Past as many records as a part has, the table is what is behind that part, and is valid at the depth above. The trees at the
 -- top are the records of depth 1: what is deeper stands under one of them.
--- Assumes nothing.
 use Prim.Native.Nat.{ℕ, suc, _+_, _≤_}
 use mathlib.Core.Path.{_≡_, refl}
 use mathlib.Core.Logic.{inl, inr}
@@ -13,7 +12,7 @@ use borrow.Author.Tests.{leb-true, leb-false, le-leb, lt-leb, eq-eqb, ne-eqb}
 use Rattle.record.specs.Record.{Record}
 use Rattle.record.specs.Forest.{Forest, none, node, leading, following, forest}
 use Rattle.rfc6733.specs.Writer.{allowedAfter}
-use Rattle.rfc6733.proofs.Tests.{decide}
+use Rattle.refusal.proofs.Tests.{decide}
 use Rattle.round_trip.specs.Forests.{count}
 use Rattle.round_trip.specs.Rules.{Valid, Kept}
 use Rattle.round_trip.specs.Tops.{roots, ofDepth}

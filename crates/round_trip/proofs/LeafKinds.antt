@@ -1,6 +1,5 @@
 -- The value of an AVP that is no group is never Grouped, and its kind is one of 0 to 14: it is the dictionary's kind, or
 -- Unhandled, or what an Address is read as. Both dictionaries are lawful: every row of their tables is looked at.
--- Assumes nothing.
 use Prim.Native.Nat.{ℕ, _≤_}
 use mathlib.Core.Path.{_≡_, refl}
 use mathlib.Core.Bool.{Bool, true, false, _&&_}
@@ -15,7 +14,7 @@ use Rattle.record.specs.Kinds.{grouped, time}
 use Rattle.rfc6733.specs.Dictionary.{Dictionary, Row, kindIn, baseAvps, sawpAvps, rfc, sawp}
 use Rattle.rfc6733.specs.Records.{avpKind, valueOf}
 use Rattle.refusal.proofs.Answers.{and-true}
-use Rattle.rfc6733.proofs.Tests.{decide}
+use Rattle.refusal.proofs.Tests.{decide}
 use Rattle.rfc6733.proofs.KindsRead.{Kind, kind-read, bare-kind, family-kind}
 use Rattle.round_trip.specs.Trip.{Ungrouped, Lawful}
 

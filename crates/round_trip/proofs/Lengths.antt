@@ -1,6 +1,5 @@
 -- How long a forest's bytes are. An AVP is its header, its data and its padding, so the length is the fold of these, wherever the
 -- data that places point at are there. With its padding an AVP is whole words, and so is a forest.
--- Assumes nothing.
 use Prim.Native.Nat.{ℕ, _+_, _%_, _≤_}
 use mathlib.Core.Path.{_≡_, refl, _∙_}
 use mathlib.Core.Bool.{cond}
@@ -18,7 +17,7 @@ use Rattle.record.specs.Forest.{Forest, none, node, forest}
 use Rattle.rfc6733.specs.Writer.{Fields, isGroup, headOf, statedData, avpBytes, forestBytes, messageBytes, tableBytes, headerFields, headFields, padBytes, bodyOf}
 use Rattle.record.specs.Table.{tableOf}
 use Rattle.rfc6733.proofs.Complete.{head}
-use Rattle.rfc6733.proofs.Tests.{decide}
+use Rattle.refusal.proofs.Tests.{decide}
 use Rattle.round_trip.specs.Forests.{size}
 use Rattle.round_trip.specs.Rules.{Good, Valid, Kept}
 use Rattle.round_trip.proofs.Kept.{valid-kept}

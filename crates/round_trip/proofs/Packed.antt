@@ -1,6 +1,5 @@
 -- Parts of bytes are bytes. And where bytes stand in the bytes that places point into: what stands at a place has its parts at that
 -- place and further on.
--- Assumes nothing.
 use Prim.Native.Nat.{ℕ, _+_, _≤_, _<_}
 use mathlib.Core.Path.{_≡_, refl, sym, ap, _∙_}
 use mathlib.Core.Logic.{inl, inr}
@@ -15,7 +14,7 @@ use Rattle.octets.specs.Run.{item, after}
 use Rattle.rfc6733.specs.Avp.{flags, headSize, dataSize, avpSize, payload}
 use Rattle.rfc6733.specs.Dictionary.{Dictionary}
 use Rattle.rfc6733.specs.Records.{avps}
-use Rattle.rfc6733.proofs.Tests.{decide}
+use Rattle.refusal.proofs.Tests.{decide}
 
 pub bytes-drop : (k : ℕ) (s : List ℕ) → Bytes s → Bytes (drop k s)
 bytes-drop k s b i = rw (getD-drop k s i 0) (b (k + i))

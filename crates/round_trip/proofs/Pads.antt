@@ -1,6 +1,5 @@
 -- Padding is p bytes at most, held as a number of p + q bytes whose last q are 0: so the number is that of the p bytes, times
 -- 256 to the q, and neither way is anything lost.
--- Assumes nothing.
 use Prim.Native.Nat.{ℕ, zero, suc, _+_, _-_, _*_, _/_, _%_, _^_, _≤_, _<_}
 use mathlib.Core.Path.{_≡_}
 use mathlib.Core.List.{List}

@@ -1,7 +1,6 @@
 -- What the writer wrote, read by the definition: it tiles, with the same codes, flags, vendors, data and padding at the top level as
 -- the table's records of depth 1, a group's data being its members' bytes. A forest that keeps the rules is read as a run of its AVPs,
 -- whichever of them the dictionary enters: the first is read back, and what follows it is the bytes of the rest.
--- Assumes nothing.
 use Prim.Native.Nat.{ℕ, _^_, _<_}
 use mathlib.Core.Path.{_≡_, refl, sym, ap, _∙_}
 use mathlib.Core.Bool.{true}
@@ -27,7 +26,7 @@ use Rattle.rfc6733.specs.Writer.{Fields, avpBytes, forestBytes, bodyOf, tableBy
 use Rattle.rfc6733.proofs.Complete.{complete-whole, whole-complete}
 use Rattle.rfc6733.proofs.Items.{sound}
 use Rattle.rfc6733.proofs.Messages.{message-read}
-use Rattle.rfc6733.proofs.Tests.{decide}
+use Rattle.refusal.proofs.Tests.{decide}
 use Rattle.round_trip.specs.Forests.{size}
 use Rattle.round_trip.specs.Rules.{Kept}
 use Rattle.round_trip.specs.Tables.{AllFit}

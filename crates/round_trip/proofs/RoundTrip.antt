@@ -1,7 +1,6 @@
 -- Demand 2, the second half: decode, then write. A message that was accepted is written again, byte for byte, from its header's
 -- fields and its records, with places that point into the message itself, by any lawful dictionary and in any room that holds it.
 -- The header's numbers are written where they were read; the run of AVPs is `RunTrip`.
--- Assumes nothing.
 use Prim.Native.Nat.{ℕ, _+_, _-_, _≤_}
 use mathlib.Core.Path.{_≡_, refl, ap, _∙_}
 use mathlib.Core.List.{List}

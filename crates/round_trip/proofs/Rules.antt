@@ -1,6 +1,5 @@
 -- `keeps` asks the rules one by one, so it is true exactly where each rule holds. A greater depth may be allowed, and any that
 -- the record keeps to. `keepers` counts up to the first record that breaks a rule, so it counts them all exactly where the table is valid.
--- Assumes nothing.
 use Prim.Native.Nat.{ℕ, suc, _+_, _≤_}
 use mathlib.Core.Path.{_≡_, refl, ap}
 use mathlib.Core.Bool.{true, false, _&&_}
@@ -11,7 +10,7 @@ use lib.Dec.{eqb}
 use lib.ListN.{length}
 use Rattle.record.specs.Record.{Record}
 use Rattle.rfc6733.specs.Writer.{isGroup, keeps, keepsLeaf, allowedAfter, keepers}
-use Rattle.rfc6733.proofs.Tests.{decide, eq-is, and-is, tests}
+use Rattle.refusal.proofs.Tests.{decide, eq-is, and-is, tests}
 use Rattle.round_trip.specs.Rules.{Unpadded, Leaf, Good, Valid}
 
 -- ---- a record, both ways

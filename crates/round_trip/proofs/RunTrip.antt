@@ -1,6 +1,5 @@
 -- The round trip of a run that tiles, by induction over it: its records are a sound forest whose numbers fit, and the bytes that
 -- are written from that forest are the run's own.
--- Assumes nothing.
 use Prim.Native.Nat.{ℕ, _+_, _^_, _≤_, _<_}
 use mathlib.Core.Path.{_≡_, refl}
 use mathlib.Core.Bool.{Bool, true, false}
@@ -21,7 +20,7 @@ use Rattle.record.specs.Table.{bare}
 use Rattle.rfc6733.proofs.Alone.{item-exact}
 use Rattle.rfc6733.proofs.Complete.{exact-sizes}
 use Rattle.rfc6733.proofs.Items.{sound, payload-length}
-use Rattle.rfc6733.proofs.Tests.{decide}
+use Rattle.refusal.proofs.Tests.{decide}
 use Rattle.round_trip.specs.Trip.{Ungrouped, Lawful, forestOf}
 use Rattle.round_trip.proofs.Packed.{bytes-item, bytes-payload, bytes-after, Holds, holds-front, holds-behind}
 use Rattle.round_trip.proofs.LeafKinds.{value-leaf}

@@ -1,7 +1,6 @@
 -- Reading a table as a forest and laying a forest out as a table. Any table is laid out again, since the part of a forest that is
 -- deeper than a record and the rest of it are all of it. A forest is read again where its members stand one level deeper, and is laid
 -- out as a valid table where its records keep the rules and only a group has members.
--- Assumes nothing.
 use Prim.Native.Nat.{ℕ, _+_, _≤_, _<_}
 use mathlib.Core.Path.{_≡_, refl, ap, _∙_}
 use mathlib.Core.Bool.{true, false}
@@ -14,7 +13,7 @@ use borrow.Author.Tests.{le-leb, lt-leb}
 use Rattle.record.specs.Record.{Record}
 use Rattle.record.specs.Forest.{Forest, none, node, leading, following, forest, flat}
 use Rattle.rfc6733.specs.Writer.{isGroup, keeps}
-use Rattle.rfc6733.proofs.Tests.{decide}
+use Rattle.refusal.proofs.Tests.{decide}
 use Rattle.round_trip.specs.Forests.{count}
 use Rattle.round_trip.specs.Rules.{Valid, Kept}
 use Rattle.round_trip.proofs.Rules.{keeps-good, good-at, after-group, after-leaf, valid-up}

@@ -1,6 +1,5 @@
 -- A table record by record: the first is read from its front, and the others are the table 32 bytes further on. Records that are laid
 -- out are read back, up to error flags and value, if their numbers fit: this is the law of layouts. Those that are read from bytes fit.
--- Assumes nothing.
 use Prim.Native.Nat.{ℕ, zero, suc, _+_, _*_, _/_, _^_, _≤_, _<_}
 use mathlib.Core.Path.{_≡_, refl, ap, _∙_}
 use mathlib.Core.List.{List, [], _∷_, _++_, map}

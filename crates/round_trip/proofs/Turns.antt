@@ -1,6 +1,5 @@
 -- A run of records, one turn at a time, as a loop over a table goes: the record at the front with its members, and then the run of
 -- the table after them.
--- Assumes nothing.
 use Prim.Native.Nat.{ℕ, suc, _+_, _*_, _≤_, _<_}
 use mathlib.Core.Path.{_≡_, refl, ap}
 use mathlib.Core.Bool.{true, false}

@@ -1,6 +1,5 @@
 -- A record of a message that was accepted is read back whole from its 32 bytes: the numbers that the writer takes fit by the round
 -- trip, the error flags are below 16, and the value was read of bytes, so that it fits eight.
--- Assumes nothing.
 use Prim.Native.Nat.{ℕ, _+_, _-_, _^_, _<_}
 use mathlib.Core.Path.{_≡_, refl}
 use mathlib.Core.Bool.{Bool, true, false}
@@ -23,7 +22,7 @@ use Rattle.rfc6733.specs.Decoder.{Message, runRecords, messageBody, messageReco
 use Rattle.record.specs.Table.{bare}
 use Rattle.flags.proofs.Joins.{join-small}
 use Rattle.rfc6733.proofs.RunErrors.{Small, own-small, value-small, errors-small, bare-small}
-use Rattle.rfc6733.proofs.Tests.{decide}
+use Rattle.refusal.proofs.Tests.{decide}
 use Rattle.rfc6733.proofs.Items.{sound}
 use Rattle.round_trip.specs.Tables.{Fits, AllFit}
 use Rattle.round_trip.proofs.Packed.{bytes-take, bytes-drop, bytes-item, bytes-payload, bytes-after}

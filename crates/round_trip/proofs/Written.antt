@@ -1,6 +1,5 @@
 -- The writer accepts exactly where the command code fits 24 bits, every record keeps the rules and none is cut off, and the message
 -- fits 24 bits and the room: the refusals' tests, turned round.
--- Assumes nothing.
 use Prim.Native.Nat.{ℕ, _/_, _%_, _≤_}
 use mathlib.Core.Path.{_≡_}
 use mathlib.Core.Bool.{not, _||_}
@@ -14,7 +13,7 @@ use Rattle.record.specs.Record.{recordSize}
 use Rattle.rfc6733.specs.Writer.{Fields, keepers, tableBytes, most24, written}
 use Rattle.record.specs.Table.{tableOf}
 use Rattle.refusal.proofs.Answers.{passed, accepts}
-use Rattle.rfc6733.proofs.Tests.{eq-is, tests}
+use Rattle.refusal.proofs.Tests.{eq-is, tests}
 use Rattle.round_trip.specs.Rules.{Valid}
 use Rattle.round_trip.proofs.Rules.{keepers-valid, valid-keepers, keepers-most}
 use Rattle.round_trip.proofs.Tables.{table-length}

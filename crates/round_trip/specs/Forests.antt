@@ -1,5 +1,4 @@
 -- Measures of a forest: how many records, and how many bytes its AVPs take.
--- Assumes nothing: these are definitions.
 use Prim.Native.Nat.{ℕ, _+_}
 use mathlib.Core.Bool.{cond}
 use Rattle.record.specs.Forest.{Forest, none, node}

@@ -1,5 +1,4 @@
 -- The rules of a table (docs/FORMAT.md, 8.3), fact by fact.
--- Assumes nothing: these are definitions.
 use Prim.Native.Nat.{ℕ, _+_, _-_, _%_, _^_, _≤_}
 use mathlib.Core.Path.{_≡_}
 use mathlib.Core.Bool.{true, false}

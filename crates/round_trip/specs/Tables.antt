@@ -1,5 +1,4 @@
 -- Tables in bytes: records that fit, and the runs that a loop over a table goes through.
--- Assumes nothing: these are definitions.
 use Prim.Native.Nat.{ℕ}
 use mathlib.Core.List.{List, [], _∷_}
 use Rattle.octets.specs.Octets.{Fit}

@@ -1,5 +1,4 @@
 -- What stands at the top level: code, flags, vendor, data and padding of each AVP, in a run and in a table.
--- Assumes nothing: these are definitions.
 use Prim.Native.Nat.{ℕ}
 use mathlib.Core.Bool.{cond}
 use mathlib.Core.List.{List, [], _∷_}

@@ -1,5 +1,4 @@
 -- From a decoded message back to what the writer takes: the header's fields, and the records of a run as a forest.
--- Assumes nothing: these are definitions.
 use Prim.Native.Nat.{ℕ, _+_, _≤_}
 use mathlib.Core.Path.{_≡_}
 use mathlib.Core.Bool.{false, cond}

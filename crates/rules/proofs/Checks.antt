@@ -1,6 +1,5 @@
 -- The rules of a record that none of its tests refuses, and of a table record by record. A rule that is broken needs no law: it makes
 -- the definition's conjunction false, wherever it stands.
--- Assumes nothing.
 use Prim.Native.Nat.{ℕ, suc, _+_, _*_, _/_, _%_, _^_, _-_, _≤_, _<_}
 use mathlib.Core.Path.{_≡_}
 use mathlib.Core.Bool.{true, false, cond, _&&_, _||_, and-true, and-false}

@@ -1,6 +1,5 @@
 -- Signed differences at 64 bits. A number of 32 bits less one from 1 to 2 ^ 32 is far within the range, so that what the machine
 -- computes is the difference itself.
--- Assumes nothing.
 use Prim.Native.Nat.{ℕ, suc, _-_, _^_, _≤_, _<_}
 use mathlib.Core.Path.{_≡_, sym, ap, subst, _∙_}
 use mathlib.Core.Bool.{Bool, true, false, cond}

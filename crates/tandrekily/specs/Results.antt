@@ -1,9 +1,8 @@
 -- A result as numbers: the answer's number and amount, then what an acceptance returns (docs/FORMAT.md, 7). What an
 -- answer does not return is 0.
--- Assumes nothing: these are definitions.
 use Prim.Native.Nat.{ℕ}
 use mathlib.Core.Bool.{Bool, true, false}
-use mathlib.Core.List.{List, [], _∷_}
+use mathlib.Core.List.{List, _∷_}
 use lib.ListN.{length}
 use Rattle.refusal.specs.Answer.{Refusal, Answer, accepted, refused}
 use Rattle.refusal.specs.Refusals.{numberOf, amountOf}

@@ -1,6 +1,5 @@
 -- A `match` says of a number that it is one of several, or none of them. Of a list of kinds the last is left then, and a number that
 -- is no kind counts as Unhandled.
--- Assumes nothing.
 use Prim.Native.Nat.{ℕ, suc, _≤_}
 use mathlib.Core.Path.{_≡_, refl, sym}
 use mathlib.Core.Bool.{Bool, true, false, cond, or-false}

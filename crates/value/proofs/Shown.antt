@@ -1,6 +1,5 @@
 -- What a value of the code shows. A number is read by one law over its width. A value that shows another kind than Address is none, so
 -- nothing more is asked of it; an Address is asked for its family besides.
--- Assumes nothing.
 use Prim.Native.Nat.{ℕ, _<_, _≤_}
 use mathlib.Core.Path.{_≡_, refl, ap, _∙_}
 use mathlib.Core.Bool.{Bool, true, false, cond}

@@ -1,5 +1,4 @@
 -- What data are by a dictionary: a value of the code as one of the definition.
--- Assumes nothing: these are definitions.
 use Prim.Native.Nat.{ℕ}
 use mathlib.Core.Path.{_≡_}
 use mathlib.Core.Bool.{cond}

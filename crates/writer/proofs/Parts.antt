@@ -1,6 +1,5 @@
 -- What is put part by part is the bytes of the definition over the front of the output: a header, field by field, and an AVP that is no
 -- group, its header, its data and its padding one after the other.
--- Assumes nothing.
 use Prim.Native.Nat.{ℕ, _+_, _-_, _≤_}
 use mathlib.Core.Path.{_≡_, sym, _∙_}
 use mathlib.Core.Bool.{true, false}

@@ -1,6 +1,5 @@
 -- What a loop over a run of a table has put so far, and a record with its members: the members' bytes are put into the part of the
 -- output after the header, and the header before them.
--- Assumes nothing.
 use Prim.Native.Nat.{ℕ, _+_, _-_, _≤_}
 use mathlib.Core.Path.{_≡_, refl, sym, ap, _∙_}
 use mathlib.Core.List.{List, [], _++_, append-assoc, append-nil}

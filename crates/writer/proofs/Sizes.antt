@@ -1,6 +1,5 @@
 -- Laws of `sizedOf`: the answer from the facts and the facts from an answer; and the size of a record with its members, from theirs or
 -- from its stated length.
--- Assumes nothing.
 use Prim.Native.Nat.{ℕ, _+_, _≤_, _<_}
 use mathlib.Core.Path.{_≡_, refl, ap}
 use mathlib.Core.Bool.{Bool, true, false, cond}

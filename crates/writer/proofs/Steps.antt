@@ -1,6 +1,5 @@
 -- The front of a table, as both cycles meet it: the record there with its members, and a loop over a run of the table, which passes a
 -- record with its members in each turn. The bytes of what it passes are told by a measure of forests that goes by sums.
--- Assumes nothing.
 use Prim.Native.Nat.{ℕ, _+_, _-_, _*_, _/_, _≤_, _<_}
 use mathlib.Core.Path.{_≡_, ap, _∙_}
 use mathlib.Core.List.{List}

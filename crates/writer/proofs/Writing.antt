@@ -1,6 +1,5 @@
 -- `written` by cases: which facts lead to which answer, in the order of the refusals; and the message, put with its members first and
 -- its header before them.
--- Assumes nothing.
 use Prim.Native.Nat.{ℕ, _+_, _-_, _/_, _%_, _≤_, _<_}
 use mathlib.Core.Path.{_≡_, refl, sym, ap, _∙_}
 use mathlib.Core.List.{List, _++_}

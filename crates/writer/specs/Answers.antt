@@ -1,5 +1,4 @@
 -- The writer's answers, as those of the definition.
--- Assumes nothing: these are definitions.
 use Prim.Native.Nat.{ℕ}
 use mathlib.Core.List.{List}
 use Rattle.refusal.specs.Answer.{Answer, accepted, refused}

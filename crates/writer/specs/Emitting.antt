@@ -1,5 +1,4 @@
 -- What the functions that put AVPs ask for, and what they leave.
--- Assumes nothing: these are definitions.
 use Prim.Native.Nat.{ℕ, _+_, _≤_}
 use mathlib.Core.Path.{_≡_}
 use mathlib.Core.List.{List}

@@ -1,5 +1,4 @@
 -- What measuring a run of a table asks for, and what it answers.
--- Assumes nothing: these are definitions.
 use Prim.Native.Nat.{ℕ, _≤_}
 use mathlib.Core.Bool.{cond}
 use mathlib.Core.List.{List}

@@ -1,5 +1,4 @@
 -- `entry` meets its contract: past the end of the table an absent entry counts as Unhandled.
--- Assumes nothing.
 use Prim.Native.Nat.{_≤_}
 use native.Mathlib.Omega.{arith}
 use lib.ListN.{length, List·getD-eq-default}

@@ -1,5 +1,4 @@
 -- `kind` meets its contract: the table decides, but for a vendor whose codes are its own.
--- Assumes nothing.
 use borrow.Author.Needs.{needs}
 use borrow.Author.Tests.{ne-eqb, not-true, not-false}
 use Rattle.attribute.specs.ByTable.{kindBy, dictionaryBy}

@@ -1,6 +1,5 @@
 -- `kind_table` meets its contract: KINDS is the table of the sawp reading, computed entry by entry, and with three entries replaced
 -- it is that of the RFC reading.
--- Assumes nothing.
 use borrow.Author.Needs.{needs}
 use Rattle.rfc6733.specs.Dictionary.{sawp, rfc}
 use Rattle.attribute.specs.Attributes.{dictionary, kindTable}

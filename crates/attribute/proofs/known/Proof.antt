@@ -1,5 +1,4 @@
 -- `known` meets its contract: Time is the greatest kind.
--- Assumes nothing.
 use native.Mathlib.Omega.{arith}
 use borrow.Author.Tests.{le-leb, lt-leb}
 use Rattle.attribute.proofs.known.Statement.{statement}

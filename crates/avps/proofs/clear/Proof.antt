@@ -1,5 +1,4 @@
 -- `clear` meets its contract: the bytes before `i` are zero, and those from `i` on are as lent. The measure is what is left.
--- Assumes nothing.
 use Prim.Native.Nat.{ℕ, _-_, _≤_}
 use mathlib.Core.Path.{_≡_, refl, ap, _∙_}
 use mathlib.Core.List.{List, _++_, append-nil}

@@ -1,6 +1,5 @@
 -- `fill_store` meets its contract: the run is read, and what its records leave of the store is cleared, so the store holds the records and zero
 -- to its last byte.
--- Assumes nothing.
 use Prim.Native.Nat.{ℕ, _-_, _≤_}
 use mathlib.Core.Path.{_≡_, sym, ap, _∙_}
 use mathlib.Core.List.{List, _++_}

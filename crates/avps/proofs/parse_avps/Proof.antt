@@ -1,6 +1,5 @@
 -- `parse_avps` meets its contract: the places are tested first, what is counted of the run decides among its refusals, and past them
 -- all the records fit, and the store is filled with them. A limit that is allowed is within the levels that the fill has.
--- Assumes nothing.
 use Prim.Native.Nat.{_+_, _≤_}
 use mathlib.Core.Path.{refl, sym, ap, _∙_}
 use native.Mathlib.Omega.{arith}

@@ -1,7 +1,6 @@
 -- The cycle of `count_avp` and `count_level` meets its contracts. A run is the AVPs passed so far and what is left: the sums are those of
 -- the AVPs passed, none of which tries a header too deep. An AVP is one header and, where it is a group, its payload's run with one
 -- level less. The measure is two for each level left and one more for a run, so it falls from a run to its AVPs and from a group inwards.
--- Assumes nothing.
 use Prim.Native.Nat.{ℕ, _+_, _-_, _*_, _^_, _<_, _≤_}
 use mathlib.Core.Path.{_≡_, sym, ap, _∙_}
 use mathlib.Core.Bool.{true, cond}

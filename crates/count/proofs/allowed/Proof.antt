@@ -1,5 +1,4 @@
 -- `allowed` meets its contract: it asks the two tests of the definition in their order.
--- Assumes nothing.
 use native.Mathlib.Omega.{arith}
 use borrow.Author.Tests.{lt-leb, le-leb}
 use Rattle.rfc6733.specs.Decoder.{allowed}

@@ -1,6 +1,5 @@
 -- `count_run` meets its contract: a limit that is allowed is the number of levels left, and what is counted of them decides among the
 -- refusals in their order. Where a header is tried too deep, whether the run tiles is asked first.
--- Assumes nothing.
 use mathlib.Core.Path.{_≡_, sym, _∙_}
 use mathlib.Core.Bool.{true}
 use denote.Ref.{now}

@@ -1,7 +1,5 @@
 -- `parse` meets its contract: the limit is tested first, then the header's refusals are the message's, and an accepted header leads
 -- to `parse_body`, whose contract is the same.
--- Assumes nothing.
-use Prim.Native.Nat.{ℕ}
 use mathlib.Core.Path.{_≡_, refl, sym, ap, _∙_}
 use mathlib.Core.Bool.{true}
 use lib.ListN.{length}

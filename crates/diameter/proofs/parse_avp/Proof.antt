@@ -1,7 +1,5 @@
 -- `parse_avp` meets its contract: the limit is tested first, then the refusals of what stands at the front, and a complete AVP leads
 -- to `parse_one`, whose contract is the same.
--- Assumes nothing.
-use Prim.Native.Nat.{ℕ}
 use mathlib.Core.Path.{_≡_, refl, sym, ap, _∙_}
 use mathlib.Core.Bool.{true}
 use lib.ListN.{length}

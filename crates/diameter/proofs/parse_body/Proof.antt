@@ -1,6 +1,5 @@
 -- `parse_body` meets its contract: the body that it lends is the run of the definition, so the message is refused as the body is, and
 -- else accepted with the body's counts.
--- Assumes nothing.
 use Prim.Native.Nat.{_≤_}
 use mathlib.Core.Path.{refl}
 use native.Mathlib.Omega.{arith}

@@ -1,5 +1,4 @@
 -- `parse_one` meets its contract: the bytes that it lends are the AVP's own, a run of one that tiles, so the answer is the run's.
--- Assumes nothing.
 use Prim.Native.Nat.{_≤_}
 use mathlib.Core.Path.{_∙_}
 use native.Mathlib.Omega.{arith}

@@ -1,5 +1,4 @@
 -- `main` ends: it writes at most as many texts as a 64-bit number counts, and stops where there is no message.
--- Assumes nothing.
 use native.Mathlib.Omega.{arith}
 use borrow.Author.Needs.{needs}
 use Rattle.dumps.proofs.main.Statement.{statement}

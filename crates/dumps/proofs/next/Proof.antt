@@ -1,5 +1,4 @@
 -- `next` is safe: the part that it lends is within the buffer, which it has tested.
--- Assumes nothing.
 use native.Mathlib.Omega.{arith}
 use lib.ListN.{length-take}
 use borrow.Author.Needs.{needs}

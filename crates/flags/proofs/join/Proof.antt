@@ -1,5 +1,4 @@
 -- `join` meets its contract: flags are joined bit by bit.
--- Assumes nothing.
 use mathlib.Core.Path.{refl}
 use Rattle.flags.specs.Flags.{join}
 use Rattle.flags.proofs.join.Statement.{statement}

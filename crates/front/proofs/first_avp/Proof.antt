@@ -1,6 +1,5 @@
 -- `first_avp` meets its contract: an AVP is complete exactly where its 8 bytes are there, its length counts its header, and its
 -- padded size is there. These are the three tests, and past them its fields are read.
--- Assumes nothing.
 use Prim.Native.Nat.{ℕ}
 use mathlib.Core.Path.{refl}
 use mathlib.Core.List.{List}

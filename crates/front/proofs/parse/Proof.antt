@@ -1,6 +1,5 @@
 -- `parse` meets its contract: a complete AVP is accepted with its fields, and of one that is not, `refusal` says which refusal is
 -- first.
--- Assumes nothing.
 use mathlib.Core.Path.{sym, _∙_}
 use borrow.Author.Needs.{needs}
 use Rattle.front.specs.Front.{answerOf}

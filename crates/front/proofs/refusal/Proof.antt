@@ -1,6 +1,5 @@
 -- `refusal` meets its contract: its tests are the refusals of the definition, in their order. An AVP that passes all but the last is not
 -- complete, so the last is its.
--- Assumes nothing.
 use Prim.Native.Nat.{ℕ, _≤_, _<_}
 use mathlib.Core.Path.{_≡_, sym, _∙_}
 use mathlib.Core.List.{List}

@@ -1,6 +1,5 @@
 -- `tiles` meets its contract: what is left of the run at `at` tiles exactly where the whole does, since every AVP passed so far was
 -- complete. The loop stops where no complete AVP is at the front, or where nothing is left. The measure is what is left.
--- Assumes nothing.
 use Prim.Native.Nat.{_-_, _≤_}
 use mathlib.Core.Path.{_≡_, sym, ap, _∙_}
 use mathlib.Core.Bool.{false}

@@ -1,5 +1,4 @@
 -- `vendor_id` meets its contract: with the vendor bit the header is 12 bytes, and bytes 8 to 11 are the vendor.
--- Assumes nothing.
 use mathlib.Core.Path.{sym, _∙_}
 use native.Mathlib.Omega.{arith}
 use denote.Ref.{now}

@@ -1,5 +1,4 @@
 -- `dump` meets its contract: what the decoder answered of the input's front is what the definition reads, and its text is put.
--- Assumes nothing.
 use Prim.Native.Nat.{ℕ, _-_}
 use mathlib.Core.Path.{_≡_, sym, ap, _∙_}
 use mathlib.Core.List.{List, _++_}

@@ -1,6 +1,5 @@
 -- `put_line` meets its contract. The loop's invariant: the numbers passed are put with a space after each, and what is left of the line
 -- is the line of the numbers that are left. The measure is how many stand before the last.
--- Assumes nothing.
 use Prim.Native.Nat.{ℕ, _+_, _-_, _≤_}
 use mathlib.Core.Path.{_≡_}
 use mathlib.Core.List.{List, [], _∷_, _++_}

@@ -1,5 +1,4 @@
 -- `put_message` meets its contract: its own line is put, and the lines of its records after it.
--- Assumes nothing.
 use mathlib.Core.List.{[], _++_}
 use native.Mathlib.Omega.{arith}
 use lib.ListN.{length-append}

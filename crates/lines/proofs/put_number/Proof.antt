@@ -1,5 +1,4 @@
 -- `put_number` meets its contract: the kit's digits are the definition's, and the byte is put after as many as there are.
--- Assumes nothing.
 use mathlib.Core.Path.{_≡_, sym, _∙_}
 use native.Mathlib.Omega.{arith}
 use lib.ListN.{take, length-take}

@@ -1,5 +1,4 @@
 -- `put_record` meets its contract: the numbers that were read are those of the record's line.
--- Assumes nothing.
 use native.Mathlib.Omega.{arith}
 use borrow.Author.Needs.{needs}
 use Rattle.lines.proofs.put_record.Statement.{statement}

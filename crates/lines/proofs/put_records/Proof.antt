@@ -1,6 +1,5 @@
 -- `put_records` meets its contract. The loop's invariant: the lines of the records passed are put, and what is left of the text is the
 -- lines of the others. The measure is how many are left.
--- Assumes nothing.
 use Prim.Native.Nat.{ℕ, _+_, _*_, _-_, _≤_}
 use mathlib.Core.Path.{_≡_}
 use mathlib.Core.List.{List, _++_}

@@ -1,5 +1,4 @@
 -- `put_refusal` meets its contract: the word is copied, and the line of number and amount is put after it.
--- Assumes nothing.
 use Prim.Native.Nat.{ℕ, _-_, _≤_}
 use mathlib.Core.Path.{_≡_, _∙_}
 use mathlib.Core.List.{List, [], _∷_, _++_}

@@ -1,5 +1,4 @@
 -- `to_be_u24` meets its contract: the quotients and remainders of the code are those by which `octets` is defined.
--- Assumes nothing.
 use mathlib.Core.Path.{refl}
 use borrow.Author.Needs.{needs}
 use Rattle.octets.specs.Octets.{octets}

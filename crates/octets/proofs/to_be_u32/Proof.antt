@@ -1,5 +1,4 @@
 -- `to_be_u32` meets its contract: the lowest three bytes are `to_be_u24`'s, and the first is the quotient by which `octets` has it.
--- Assumes nothing.
 use borrow.Author.Needs.{needs}
 use Rattle.octets.specs.Octets.{octets}
 use Rattle.octets.proofs.to_be_u32.Statement.{statement}

@@ -1,5 +1,4 @@
 -- `to_be_u64` meets its contract: its two halves are numbers of four bytes, and the bytes of a number are those of its halves.
--- Assumes nothing.
 use borrow.Author.Needs.{needs}
 use Rattle.octets.specs.Octets.{octets}
 use Rattle.octets.proofs.Numbers.{written-low, written-parts}

@@ -1,5 +1,4 @@
 -- `put_u24_u8` meets its contract: the three bytes are the high part of the number that is put, and the byte is its low part.
--- Assumes nothing.
 use Prim.Native.Nat.{ℕ, _+_, _*_, _%_, _^_}
 use mathlib.Core.Path.{_≡_, ap, _∙_}
 use mathlib.Core.List.{List, _++_}

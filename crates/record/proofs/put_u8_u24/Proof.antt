@@ -1,5 +1,4 @@
 -- `put_u8_u24` meets its contract: the byte is the high part of the number that is put, and the three bytes are its low part.
--- Assumes nothing.
 use Prim.Native.Nat.{ℕ}
 use mathlib.Core.Path.{ap, _∙_}
 use mathlib.Core.List.{List}

@@ -1,5 +1,4 @@
 -- `swap_u64` meets its contract: it reads a number from the bytes of v, the last first, and `turned` says that these are its bytes.
--- Assumes nothing.
 use borrow.Author.Needs.{needs}
 use Rattle.octets.specs.Octets.{octets}
 use Rattle.record.proofs.Turned.{turned}

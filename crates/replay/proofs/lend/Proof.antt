@@ -1,5 +1,4 @@
 -- `lend` is safe and ends: the store keeps its length, and the measure is what is left of it.
--- Assumes nothing.
 use Prim.Native.Nat.{_-_, _≤_}
 use mathlib.Core.Path.{_≡_, refl}
 use native.Mathlib.Omega.{arith}

@@ -1,5 +1,4 @@
 -- `main` ends: it answers at most as many frames as a 64-bit number counts, and stops at the first that isn't there.
--- Assumes nothing.
 use native.Mathlib.Omega.{arith}
 use borrow.Author.Needs.{needs}
 use Rattle.replay.proofs.main.Statement.{statement}

@@ -1,5 +1,4 @@
 -- `next` is safe: the parts that it lends are within the buffers, which it has tested.
--- Assumes nothing.
 use native.Mathlib.Omega.{arith}
 use lib.ListN.{length-take}
 use borrow.Author.Needs.{needs}

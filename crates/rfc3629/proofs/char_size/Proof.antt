@@ -1,6 +1,5 @@
 -- `char_size` meets its contract: it asks the four lines of the grammar in their order, each where the text has bytes enough
 -- for it. A line that asks for more bytes than there are does not match, and no line looks at more bytes than it asks for.
--- Assumes nothing.
 use Prim.Native.Nat.{ℕ}
 use mathlib.Core.Path.{_≡_, refl, sym, _∙_}
 use mathlib.Core.Bool.{Bool, cond}

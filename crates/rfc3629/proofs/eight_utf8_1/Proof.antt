@@ -1,5 +1,4 @@
 -- `eight_utf8_1` meets its contract: it asks for eight bytes and then of each of them whether it is UTF8-1.
--- Assumes nothing.
 use borrow.Author.Needs.{needs}
 use borrow.Author.Tests.{le-leb, lt-leb}
 use Rattle.rfc3629.specs.Ascii.{asciiFront}

@@ -1,6 +1,5 @@
 -- `is_utf8` meets its contract: what is left of the text at `at` is well-formed exactly where the whole text is, since only characters were passed.
 -- The loop stops where no character is at the front, or where nothing is left. The measure is what is left.
--- Assumes nothing.
 use Prim.Native.Nat.{_-_}
 use mathlib.Core.Path.{_≡_, refl, sym, _∙_}
 use native.Mathlib.Omega.{arith}

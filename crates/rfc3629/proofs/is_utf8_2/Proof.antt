@@ -1,5 +1,4 @@
 -- `is_utf8_2` meets its contract: it asks the ranges of the one row of UTF8-2, and only the order in which the tests are joined differs.
--- Assumes nothing.
 use mathlib.Core.Bool.{and-true, or-false}
 use borrow.Author.Needs.{needs}
 use Rattle.rfc3629.proofs.is_utf8_2.Statement.{statement}

@@ -1,5 +1,4 @@
 -- `is_utf8_3` meets its contract: it asks the ranges of the four rows of UTF8-3, and only the order in which the tests are joined differs.
--- Assumes nothing.
 use borrow.Author.Needs.{needs}
 use Rattle.rfc3629.proofs.Rows.{row-3, four-rows}
 use Rattle.rfc3629.proofs.is_utf8_3.Statement.{statement}

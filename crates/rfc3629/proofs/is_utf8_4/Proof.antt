@@ -1,5 +1,4 @@
 -- `is_utf8_4` meets its contract: it asks the ranges of the three rows of UTF8-4, and only the order in which the tests are joined differs.
--- Assumes nothing.
 use borrow.Author.Needs.{needs}
 use Rattle.rfc3629.proofs.Rows.{row-4, three-rows}
 use Rattle.rfc3629.proofs.is_utf8_4.Statement.{statement}

@@ -1,5 +1,4 @@
 -- `allowed_after` meets its contract: a group is a record of kind 8, and only after one the depth may be one more.
--- Assumes nothing.
 use borrow.Author.Needs.{needs}
 use borrow.Author.Tests.{eq-eqb, ne-eqb}
 use Rattle.record.specs.Kinds.{grouped}

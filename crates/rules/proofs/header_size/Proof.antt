@@ -1,5 +1,4 @@
 -- `header_size` meets its contract: a record has the flags of its AVP.
--- Assumes nothing.
 use borrow.Author.Needs.{needs}
 use Rattle.rfc6733.specs.Writer.{headOf}
 use Rattle.rules.proofs.header_size.Statement.{statement}

@@ -1,6 +1,5 @@
 -- `keepers` meets its contract: the records passed keep the rules, so those of the whole table are as many as were passed and those of
 -- what is left. The measure is what is left of the table.
--- Assumes nothing.
 use Prim.Native.Nat.{ℕ, _+_, _-_, _*_, _≤_}
 use mathlib.Core.Path.{_≡_, sym, _∙_}
 use mathlib.Core.Bool.{false}

@@ -1,6 +1,5 @@
 -- `keeps` meets its contract: its tests are the rules of the definition, in their order, and a group has other ones than a record that
 -- is none. A record is always allowed the depth that it has.
--- Assumes nothing.
 use mathlib.Core.Path.{sym, _∙_}
 use mathlib.Core.Bool.{and-false}
 use native.Mathlib.Omega.{arith}

@@ -1,5 +1,4 @@
 -- `keeps_group` meets its contract: the two tests are the definition's, the padding count first.
--- Assumes nothing.
 use borrow.Author.Tests.{eq-eqb, ne-eqb}
 use Rattle.rules.proofs.keeps_group.Statement.{statement}
 use Rattle.rules.proofs.keeps_group.Tie as tie

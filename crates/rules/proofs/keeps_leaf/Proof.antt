@@ -1,5 +1,4 @@
 -- `keeps_leaf` meets its contract: its tests are the rules of the definition, in their order.
--- Assumes nothing.
 use Prim.Native.Nat.{_-_}
 use mathlib.Core.Path.{_≡_, sym, _∙_}
 use mathlib.Core.Bool.{and-false}

@@ -1,5 +1,4 @@
 -- `keeps_vendor` meets its contract: with the vendor bit any vendor is kept, and without it the test is the definition's.
--- Assumes nothing.
 use borrow.Author.Needs.{needs}
 use Rattle.rules.proofs.keeps_vendor.Statement.{statement}
 use Rattle.rules.proofs.keeps_vendor.Tie as tie

@@ -1,5 +1,4 @@
 -- `unused_padding` meets its contract: with 0, 1 or 2 bytes of padding the lowest 3, 2 or 1 bytes are unused, and none with more.
--- Assumes nothing.
 use Prim.Native.Nat.{_-_}
 use mathlib.Core.Path.{_≡_}
 use native.Mathlib.Nat.{mod-one}

@@ -1,5 +1,4 @@
 -- `signed_enumerated` meets its contract: the lower half of the patterns are the numbers themselves, and the upper half those less 2 ^ 32.
--- Assumes nothing.
 use borrow.Author.Needs.{needs}
 use native.Mathlib.Omega.{arith}
 use Rattle.signed.proofs.Differences.{difference-fits, lower-half, upper-half}

@@ -1,5 +1,4 @@
 -- `unix_seconds` meets its contract: it is the difference of the definition, which fits.
--- Assumes nothing.
 use borrow.Author.Needs.{needs}
 use native.Mathlib.Omega.{arith}
 use Rattle.rfc6733.specs.Signed.{unixSeconds}

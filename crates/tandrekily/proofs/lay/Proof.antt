@@ -1,5 +1,4 @@
 -- `lay` meets its contract: the numbers stand in the order of the definition.
--- Assumes nothing.
 use mathlib.Core.Path.{refl}
 use borrow.Author.Needs.{needs}
 use Rattle.header.specs.Parsed.{headerAs}

@@ -1,5 +1,4 @@
 -- `refused` meets its contract: a refusal lays out its number and its amount over zeros.
--- Assumes nothing.
 use borrow.Author.Needs.{needs}
 use Rattle.header.specs.Parsed.{headerAs}
 use Rattle.avps.specs.Answers.{countsAs}

@@ -1,5 +1,4 @@
 -- `tandrekily_avp` meets its contract: in the reading that is asked for, it lays out what `diameter::parse_avp` answers, which fills the store.
--- Assumes nothing.
 use borrow.Author.Needs.{needs}
 use Rattle.tandrekily.proofs.tandrekily_avp.Statement.{statement}
 use Rattle.tandrekily.proofs.tandrekily_avp.Tie as tie

@@ -1,5 +1,4 @@
 -- `tandrekily_header` meets its contract: it lays out what `Header::parse` answers.
--- Assumes nothing.
 use mathlib.Core.Path.{ap, _∙_}
 use borrow.Author.Needs.{needs}
 use Rattle.tandrekily.specs.Results.{messageResult}

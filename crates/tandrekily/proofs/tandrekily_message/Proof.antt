@@ -1,5 +1,4 @@
 -- `tandrekily_message` meets its contract: in the reading that is asked for, it lays out what `diameter::parse` answers, which fills the store.
--- Assumes nothing.
 use borrow.Author.Needs.{needs}
 use Rattle.tandrekily.proofs.tandrekily_message.Statement.{statement}
 use Rattle.tandrekily.proofs.tandrekily_message.Tie as tie

@@ -1,5 +1,4 @@
 -- `tandrekily_write` meets its contract: it lays out what `writer::write` answers, which writes the output.
--- Assumes nothing.
 use borrow.Author.Needs.{needs}
 use Rattle.writer.specs.Answers.{fieldsAs}
 use Rattle.tandrekily.specs.Results.{fieldsGiven}

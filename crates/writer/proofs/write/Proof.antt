@@ -1,6 +1,5 @@
 -- `write` meets its contract: its tests are the refusals of the definition, in their order, and each refusal leaves before a byte is
 -- put. The size that was measured is the message's without its header, so what is put fits.
--- Assumes nothing.
 use Prim.Native.Nat.{ℕ}
 use mathlib.Core.Path.{refl, sym, _∙_}
 use mathlib.Core.List.{List}

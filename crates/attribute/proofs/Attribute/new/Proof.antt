@@ -1,5 +1,4 @@
 -- `Attribute::new` meets its contract: each arm of the match is a row of the names, and its default is none of their numbers.
--- Assumes nothing.
 use Rattle.attribute.proofs.Names.{named, unknown}
 use Rattle.attribute.proofs.Attribute.new.Statement.{statement}
 use Rattle.attribute.proofs.Attribute.new.Tie as tie

@@ -1,6 +1,5 @@
 -- `Attribute::read` meets its contract: the sawp reading is `Attribute::new`; the RFC reading has two rows before the same names,
 -- and a number that neither has goes on to them.
--- Assumes nothing.
 use borrow.Author.Needs.{needs}
 use Rattle.attribute.specs.Attributes.{attributeIn}
 use Rattle.attribute.proofs.Names.{other-name}

@@ -1,5 +1,4 @@
 -- `Reading::dictionary` meets its contract: each arm is a line of the definition.
--- Assumes nothing.
 use borrow.Author.Needs.{needs}
 use Rattle.attribute.specs.ByTable.{besideTable}
 use Rattle.attribute.proofs.Reading.dictionary.Statement.{statement}

@@ -1,5 +1,4 @@
 -- `get_reserved` meets its contract: `RESERVED_MASK` is `2 ^ 5 - 1`, the mask of the lowest five bits.
--- Assumes nothing.
 use lib.Bits.{and-mask}
 use Rattle.avp.proofs.AVP.get_reserved.Statement.{statement}
 use Rattle.avp.proofs.AVP.get_reserved.Tie as tie

@@ -1,5 +1,4 @@
 -- `header_size_of` meets its contract: `headSize` asks for the vendor bit, which is what `vendor_specific_flag` answers.
--- Assumes nothing.
 use borrow.Author.Needs.{needs}
 use Rattle.rfc6733.specs.Avp.{headSize}
 use Rattle.avp.proofs.AVP.header_size_of.Statement.{statement}

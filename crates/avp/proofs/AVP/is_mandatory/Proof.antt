@@ -1,5 +1,4 @@
 -- `is_mandatory` meets its contract: `MANDATORY_FLAG` is the mask of the bit, `2 ^ mandatoryBit`.
--- Assumes nothing.
 use Rattle.rfc6733.specs.Avp.{mandatoryBit}
 use Rattle.flags.proofs.Masks.{mask-bit}
 use Rattle.avp.proofs.AVP.is_mandatory.Statement.{statement}

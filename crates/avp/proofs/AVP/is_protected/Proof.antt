@@ -1,5 +1,4 @@
 -- `is_protected` meets its contract: `PROTECTED_FLAG` is the mask of the bit, `2 ^ protectedBit`.
--- Assumes nothing.
 use Rattle.rfc6733.specs.Avp.{protectedBit}
 use Rattle.flags.proofs.Masks.{mask-bit}
 use Rattle.avp.proofs.AVP.is_protected.Statement.{statement}

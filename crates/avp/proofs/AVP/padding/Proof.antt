@@ -1,5 +1,4 @@
 -- `padding` meets its contract: the code is the definition.
--- Assumes nothing.
 use mathlib.Core.Path.{refl}
 use borrow.Author.Needs.{needs}
 use Rattle.rfc6733.specs.Avp.{padding}

@@ -1,5 +1,4 @@
 -- `vendor_specific_flag` meets its contract: `VENDOR_SPECIFIC_FLAG` is the mask of the bit, `2 ^ vendorBit`.
--- Assumes nothing.
 use Rattle.rfc6733.specs.Avp.{vendorBit}
 use Rattle.flags.proofs.Masks.{mask-bit}
 use Rattle.avp.proofs.AVP.vendor_specific_flag.Statement.{statement}

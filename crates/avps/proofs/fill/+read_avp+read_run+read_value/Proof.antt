@@ -1,7 +1,6 @@
 -- `read_run`, `read_avp` and `read_value` meet their contracts, which are proved together since each calls the next and the last the first.
 -- A run's records are those of its AVPs one after the other (`Filling`); an AVP's are its own and its members' (`OwnRecord`); and the data
 -- of an AVP are entered where their value is Grouped (`Entering`). The levels left fall when a group is entered.
--- Assumes nothing.
 use native.Mathlib.Omega.{arith}
 use borrow.Author.Needs.{needs}
 use Rattle.count.proofs.Lent.{own}

@@ -1,5 +1,4 @@
 -- `own_errors` meets its contract: each flag is raised by its own test, and the two are joined.
--- Assumes nothing.
 use borrow.Author.Needs.{needs}
 use Rattle.avps.proofs.fill.own_errors.Statement.{statement}
 use Rattle.avps.proofs.fill.own_errors.Tie as tie

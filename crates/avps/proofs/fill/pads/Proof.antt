@@ -1,5 +1,4 @@
 -- `pads` meets its contract: a byte that is absent counts as 0 in the definition, and each arm puts 0 for the bytes that are.
--- Assumes nothing.
 use Prim.Native.Nat.{ℕ}
 use mathlib.Core.Path.{_≡_, refl}
 use mathlib.Core.List.{List, [], _∷_}

@@ -1,5 +1,4 @@
 -- `error_flags` meets its contract: the flag is raised exactly where a reserved bit is set, which is what `reserved_set` answers.
--- Assumes nothing.
 use borrow.Author.Needs.{needs}
 use Rattle.header.proofs.Header.error_flags.Statement.{statement}
 use Rattle.header.proofs.Header.error_flags.Tie as tie

@@ -1,5 +1,4 @@
 -- `fields` meets its contract: each field is read at its place in the 20 bytes, and the definition has there the same number.
--- Assumes nothing.
 use native.Mathlib.Omega.{arith}
 use denote.Ref.{now}
 use Rattle.octets.proofs.Numbers.{read-at, one-byte}

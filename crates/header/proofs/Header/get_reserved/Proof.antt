@@ -1,5 +1,4 @@
 -- `get_reserved` meets its contract: `RESERVED_MASK` is `2 ^ 4 - 1`, the mask of the lowest four bits.
--- Assumes nothing.
 use lib.Bits.{and-mask}
 use Rattle.header.proofs.Header.get_reserved.Statement.{statement}
 use Rattle.header.proofs.Header.get_reserved.Tie as tie

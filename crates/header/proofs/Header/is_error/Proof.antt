@@ -1,5 +1,4 @@
 -- `is_error` meets its contract: `ERROR_FLAG` is the mask of the bit, `2 ^ errorBit`.
--- Assumes nothing.
 use Rattle.flags.proofs.Masks.{mask-bit}
 use Rattle.header.proofs.Header.is_error.Statement.{statement}
 use Rattle.header.proofs.Header.is_error.Tie as tie

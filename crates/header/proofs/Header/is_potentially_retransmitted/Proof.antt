@@ -1,5 +1,4 @@
 -- `is_potentially_retransmitted` meets its contract: `POTENTIALLY_RETRANSMITTED_FLAG` is the mask of the bit, `2 ^ retransmittedBit`.
--- Assumes nothing.
 use Rattle.flags.proofs.Masks.{mask-bit}
 use Rattle.header.proofs.Header.is_potentially_retransmitted.Statement.{statement}
 use Rattle.header.proofs.Header.is_potentially_retransmitted.Tie as tie

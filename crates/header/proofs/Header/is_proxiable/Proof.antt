@@ -1,5 +1,4 @@
 -- `is_proxiable` meets its contract: `PROXIABLE_FLAG` is the mask of the bit, `2 ^ proxiableBit`.
--- Assumes nothing.
 use Rattle.flags.proofs.Masks.{mask-bit}
 use Rattle.header.proofs.Header.is_proxiable.Statement.{statement}
 use Rattle.header.proofs.Header.is_proxiable.Tie as tie

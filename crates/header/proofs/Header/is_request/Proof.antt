@@ -1,5 +1,4 @@
 -- `is_request` meets its contract: `REQUEST_FLAG` is the mask of the bit, `2 ^ requestBit`.
--- Assumes nothing.
 use Rattle.flags.proofs.Masks.{mask-bit}
 use Rattle.header.proofs.Header.is_request.Statement.{statement}
 use Rattle.header.proofs.Header.is_request.Tie as tie

@@ -1,6 +1,5 @@
 -- `Header::parse` meets its contract: its tests are the refusals of the definition, in their order, on the length that the header states.
 -- Past them all 20 bytes are there, and the fields and the flags are those of the definition.
--- Assumes nothing.
 use Prim.Native.Nat.{ℕ, _≤_}
 use mathlib.Core.Path.{_≡_, sym, _∙_}
 use mathlib.Core.List.{List}

@@ -1,5 +1,4 @@
 -- `reserved_set` meets its contract: `RESERVED_MASK` is `2 ^ 4 - 1`, the mask of the lowest four bits.
--- Assumes nothing.
 use lib.Bits.{and-mask}
 use Rattle.header.proofs.Header.reserved_set.Statement.{statement}
 use Rattle.header.proofs.Header.reserved_set.Tie as tie

@@ -1,5 +1,4 @@
 -- `length` meets its contract: its test is the one by which `availableOf` is defined.
--- Assumes nothing.
 use borrow.Author.Needs.{needs}
 use borrow.Author.Tests.{lt-ltb, le-ltb}
 use Rattle.octets.specs.AtHand.{availableOf}

@@ -1,5 +1,4 @@
 -- `all_fields` meets its contract: `fields` has read all but two, which are read at their places.
--- Assumes nothing.
 use mathlib.Core.Path.{refl}
 use borrow.Author.Needs.{needs}
 use Rattle.record.proofs.Whole.{whole-is}

@@ -1,5 +1,4 @@
 -- `fields` meets its contract: each field is read at its place in the 32 bytes, and `fields-are` says that these are the definition's.
--- Assumes nothing.
 use mathlib.Core.Path.{refl}
 use native.Mathlib.Omega.{arith}
 use Rattle.record.proofs.Fields.{fields-are}

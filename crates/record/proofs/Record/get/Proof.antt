@@ -1,6 +1,5 @@
 -- `Record::get` meets its contract: with 32 bytes the fields are read as they stand. With fewer they are read from the table over zeros,
 -- and `record-over-zeros` says that those give the same record.
--- Assumes nothing.
 use mathlib.Core.Path.{ap, _∙_}
 use borrow.Author.Needs.{needs}
 use Rattle.record.specs.Table.{bare, entryAt}

@@ -1,6 +1,5 @@
 -- `padded` meets its contract. The loop's invariant: the first i bytes of the table stand over the zeros; at the end these are all.
 -- The measure is what is left of the table.
--- Assumes nothing.
 use Prim.Native.Nat.{_≤_, _-_}
 use mathlib.Core.Path.{_≡_, _∙_}
 use native.Mathlib.Omega.{arith}

@@ -1,6 +1,5 @@
 -- `Record::put` meets its contract: it tests for room as the definition does, and then puts the header's fields and the others behind
 -- them, which `with-room` says is the whole record over the front of the store.
--- Assumes nothing.
 use native.Mathlib.Omega.{arith}
 use borrow.Author.Needs.{needs}
 use Rattle.record.proofs.Room.{no-room, with-room}

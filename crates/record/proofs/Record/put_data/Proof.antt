@@ -1,5 +1,4 @@
 -- `put_data` meets its contract: each field is put right behind the one before, so the eight are put as one.
--- Assumes nothing.
 use Prim.Native.Nat.{ℕ}
 use mathlib.Core.Path.{_≡_}
 use mathlib.Core.List.{List, _++_}

@@ -1,5 +1,4 @@
 -- `put_header` meets its contract: each field is put right behind the one before, so the four are put as one.
--- Assumes nothing.
 use borrow.Author.Needs.{needs}
 use Rattle.octets.specs.Octets.{octets}
 use Rattle.record.proofs.Record.put_header.Statement.{statement}

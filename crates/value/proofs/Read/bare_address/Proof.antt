@@ -1,5 +1,4 @@
 -- `bare_address` meets its contract: its two tests are those of the definition, on the same length.
--- Assumes nothing.
 use mathlib.Core.Path.{_≡_, sym}
 use native.Mathlib.Omega.{arith}
 use lib.ListN.{length}

@@ -1,5 +1,4 @@
 -- `family_address` meets its contract: its tests are those of the definition, on the family that the first two bytes write.
--- Assumes nothing.
 use Prim.Native.Nat.{ℕ}
 use mathlib.Core.Path.{_≡_, sym}
 use mathlib.Core.List.{List}

@@ -1,6 +1,5 @@
 -- `Value::new` meets its contract: at each kind the definition has one form, and the arm of that kind reads it. What no arm names is
 -- Unhandled.
--- Assumes nothing.
 use mathlib.Core.Path.{refl}
 use borrow.Author.Needs.{needs}
 use Rattle.rfc6733.specs.Value.{text, dataAs}

@@ -1,5 +1,4 @@
 -- `of_32` meets its contract: each arm makes the value of its own kind, and a kind of 32 bits that no arm names is Time.
--- Assumes nothing.
 use mathlib.Core.Path.{refl}
 use mathlib.Core.List.{[], _∷_}
 use borrow.Author.Needs.{needs}

@@ -1,5 +1,4 @@
 -- `of_64` meets its contract: each arm makes the value of its own kind, and a kind of 64 bits that no arm names is Float64.
--- Assumes nothing.
 use mathlib.Core.Path.{refl}
 use mathlib.Core.List.{[], _∷_}
 use borrow.Author.Needs.{needs}

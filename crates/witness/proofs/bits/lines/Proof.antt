@@ -1,5 +1,4 @@
 -- `lines` ends: the flags stay a byte, and the measure is how many are left.
--- Assumes nothing.
 use Prim.Native.Nat.{_-_, _≤_}
 use native.Mathlib.Omega.{arith}
 use borrow.Author.Needs.{needs}

@@ -1,5 +1,4 @@
 -- `lines` ends: the measure is how many codes are left.
--- Assumes nothing.
 use Prim.Native.Nat.{_-_, _≤_}
 use native.Mathlib.Omega.{arith}
 use borrow.Author.Needs.{needs}

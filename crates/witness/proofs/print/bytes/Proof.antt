@@ -1,5 +1,4 @@
 -- `bytes` is safe and ends: the index stays below the length, and the measure is what is left.
--- Assumes nothing.
 use Prim.Native.Nat.{_-_, _≤_}
 use mathlib.Core.Path.{_≡_, refl}
 use native.Mathlib.Omega.{arith}

@@ -1,5 +1,4 @@
 -- `result` is safe and ends: the index stays below the length, and the measure is what is left.
--- Assumes nothing.
 use Prim.Native.Nat.{_-_, _≤_}
 use native.Mathlib.Omega.{arith}
 use borrow.Author.Needs.{needs}

@@ -1,5 +1,4 @@
 -- `signed` is safe: a number that is not negative is its own magnitude, and -1 less a negative one is a magnitude that fits.
--- Assumes nothing.
 use Prim.Native.Nat.{ℕ, suc, _+_, _^_, _<_}
 use mathlib.Core.Path.{_≡_, refl, sym, ap, subst, _∙_}
 use mathlib.Core.Bool.{true, false}

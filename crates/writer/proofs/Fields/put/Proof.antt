@@ -1,5 +1,4 @@
 -- `Fields::put` meets its contract: each field is put right behind the one before, so the seven are put as one.
--- Assumes nothing.
 use borrow.Author.Needs.{needs}
 use Rattle.writer.specs.Answers.{fieldsAs}
 use Rattle.writer.proofs.Parts.{header-put}

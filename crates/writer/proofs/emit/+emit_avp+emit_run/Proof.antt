@@ -2,7 +2,6 @@
 -- output, and what is left of the table, whose bytes fit what is left of the output. The members of a group are put into the part after
 -- its header, and the header before them; its length is theirs and its own size. The measure is what is left of the table, twice, and
 -- one more for a run: it falls from a run to its records and from a group inwards.
--- Assumes nothing.
 use Prim.Native.Nat.{ℕ, _+_, _-_, _*_, _^_, _≤_, _<_}
 use mathlib.Core.Path.{_≡_, refl}
 use mathlib.Core.List.{List, append-nil}

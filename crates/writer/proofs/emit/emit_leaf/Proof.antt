@@ -1,5 +1,4 @@
 -- `emit_leaf` meets its contract: header, data and padding are put one after the other.
--- Assumes nothing.
 use Prim.Native.Nat.{ℕ, _+_, _-_, _≤_}
 use mathlib.Core.Path.{_≡_, refl, _∙_}
 use mathlib.Core.List.{List}

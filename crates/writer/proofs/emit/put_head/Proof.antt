@@ -1,5 +1,4 @@
 -- `put_head` meets its contract: each field is put right behind the one before, so the three, or the four with a vendor, are put as one.
--- Assumes nothing.
 use mathlib.Core.Path.{_≡_, sym, _∙_}
 use mathlib.Core.Bool.{true}
 use native.Mathlib.Omega.{arith}

@@ -1,6 +1,5 @@
 -- `put_padding` meets its contract: the bytes that `to_be_u24` gives are the definition's, and as many of them are copied as the record
 -- says.
--- Assumes nothing.
 use mathlib.Core.Path.{sym, _∙_}
 use native.Mathlib.Omega.{arith}
 use lib.ListN.{length-take}

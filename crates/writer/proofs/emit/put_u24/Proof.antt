@@ -1,5 +1,4 @@
 -- `put_u24` meets its contract: the three stores are those of the bytes that `to_be_u24` gives, and a store changes no length.
--- Assumes nothing.
 use native.Mathlib.Numerals.{towards-suc}
 use native.Mathlib.Omega.{arith}
 use lib.ListN.{length-set}

@@ -1,5 +1,4 @@
 -- `put_u32` meets its contract: the four stores are those of the bytes that `to_be_u32` gives, and a store changes no length.
--- Assumes nothing.
 use native.Mathlib.Numerals.{towards-suc}
 use native.Mathlib.Omega.{arith}
 use lib.ListN.{length-set}

@@ -1,5 +1,4 @@
 -- `put_u8` meets its contract: a byte is its own remainder by 256, which is what `octets` writes.
--- Assumes nothing.
 use Prim.Native.Nat.{_%_}
 use mathlib.Core.Path.{_≡_}
 use native.Mathlib.Omega.{arith}

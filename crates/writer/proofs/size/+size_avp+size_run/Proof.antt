@@ -1,7 +1,6 @@
 -- The cycle of `size_avp` and `size_run` meets its contracts. A run is the records passed so far, whose size is within what was left, and
 -- what is left of the table. A record's size is its header's with its members' run, or its stated length with its padding. The measure
 -- is what is left of the table, twice, and one more for a run: it falls from a run to its records and from a group inwards.
--- Assumes nothing.
 use Prim.Native.Nat.{ℕ, _+_, _-_, _*_, _≤_, _<_}
 use mathlib.Core.Path.{_≡_, sym, _∙_}
 use mathlib.Core.List.{List}

@@ -1,5 +1,4 @@
 -- `read_avp`: an AVP's records are its own and its members' after it (`OwnRecord`).
--- Assumes nothing.
 use Prim.Native.Nat.{ℕ, _≤_}
 use native.Mathlib.Omega.{arith}
 use lib.ListN.{length}

@@ -1,5 +1,4 @@
 -- What falls from call to call: the levels left, when a group is entered, and within a level the order of the calls.
--- Assumes nothing.
 use Prim.Native.Nat.{ℕ, _+_, _*_, _<_}
 use borrow.Fn.Kinds.{In}
 use borrow.Fn.PlainCycle.{Measures, is, falls, and}

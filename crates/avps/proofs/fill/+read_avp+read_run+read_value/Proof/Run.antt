@@ -1,5 +1,4 @@
 -- `read_run`: a run's records are those of its AVPs, one after the other (`Filling`).
--- Assumes nothing.
 use Prim.Native.Nat.{ℕ, _+_, _-_, _*_, _≤_}
 use mathlib.Core.Path.{sym, _∙_}
 use native.Mathlib.Omega.{arith}

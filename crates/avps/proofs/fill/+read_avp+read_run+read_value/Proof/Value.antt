@@ -1,5 +1,4 @@
 -- `read_value`: the data of an AVP are entered where their value is Grouped (`Entering`).
--- Assumes nothing.
 use Prim.Native.Nat.{ℕ}
 use mathlib.Core.Path.{sym, _∙_}
 use native.Mathlib.Omega.{arith}

@@ -1,6 +1,5 @@
 -- What a test says, as a statement that `simp` puts for it, so that tests which are joined come apart in one step. And a test is true
 -- or false: a proof that matches on this has the equation in each case and rewrites by it, with no helper that states the goal again.
--- Assumes nothing.
 use Prim.Native.Nat.{ℕ, _≤_}
 use mathlib.Core.Path.{_≡_, refl, sym}
 use mathlib.Core.Bool.{Bool, true, false, cond, not, _&&_, _||_}
