@@ -18,7 +18,7 @@ use Rattle.diameter.specs.declared.Message.{Message}
 use Rattle.diameter.specs.declared.Decoded.{Decoded}
 use Rattle.diameter.specs.declared.Decoded.the-variants.{Accepted}
 use Rattle.diameter.specs.Answers.{answerOf, messageAs}
-use Rattle.promises.proofs.Calls.{Slice, Parse}
+use Rattle.promises.proofs.OneOutcome.Calls.{Slice, Parse}
 use Rattle.promises.proofs.Acceptance.{accepted-as}
 
 pub tried-of-the-decoder : (κs : Lfts 2) (reading : Reading) (limit : ℕ) (input store : Slice) (m : Message) (store′ : Slice)

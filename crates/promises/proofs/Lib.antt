@@ -1,5 +1,4 @@
 pub mod OneOutcome
-mod Calls
 mod Acceptance
 pub mod Refusals
 pub mod Decoder

@@ -1,5 +1,6 @@
 -- Every public function of every crate has one outcome: no second result meets its contract at the same arguments. `Post` is the
 -- contract as the check reads it from the source, so a contract that says less no longer proves its line here.
+pub mod Calls
 use Prim.Native.Nat.{ℕ}
 use mathlib.Core.Path.{_≡_, sym, _∙_}
 use mathlib.Core.Bool.{Bool}
@@ -9,7 +10,7 @@ use Rattle.attribute.specs.declared.Reading.{Reading}
 use Rattle.attribute.specs.declared.Dictionary.{Dictionary}
 use Rattle.record.specs.Record.{Record}
 use Rattle.writer.specs.declared.Fields.{Fields}
-use Rattle.promises.proofs.Calls.{Slice, RecordPut, ParseAvps, Parse, ParseAvp, Dump, Write, TandrekilyMessage, TandrekilyHeader, TandrekilyAvp, TandrekilyWrite}
+use Rattle.promises.proofs.OneOutcome.Calls.{Slice, RecordPut, ParseAvps, Parse, ParseAvp, Dump, Write, TandrekilyMessage, TandrekilyHeader, TandrekilyAvp, TandrekilyWrite}
 use Rattle.octets.proofs.be_u16.Reads as be-u16
 use Rattle.octets.proofs.be_u24.Reads as be-u24
 use Rattle.octets.proofs.be_u32.Reads as be-u32

@@ -33,7 +33,7 @@ use Rattle.diameter.specs.declared.Decoded.the-variants as decoder
 use Rattle.writer.specs.declared.Fields.{Fields}
 use Rattle.writer.specs.declared.Written.the-variants as writer
 use Rattle.writer.specs.Answers.{fieldsAs, answerOf}
-use Rattle.promises.proofs.Calls.{Slice, Parse, Write}
+use Rattle.promises.proofs.OneOutcome.Calls.{Slice, Parse, Write}
 use Rattle.promises.proofs.Acceptance.{AcceptedAs, accepted-as}
 
 -- the run of a message's AVPs

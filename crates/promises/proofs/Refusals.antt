@@ -22,7 +22,7 @@ use Rattle.writer.specs.declared.Fields.{Fields}
 use Rattle.writer.specs.declared.Written.the-variants as writer
 use Rattle.writer.specs.Answers as writer-answers
 use Rattle.tandrekily.specs.Results.{messageResult, avpResult, writtenResult}
-use Rattle.promises.proofs.Calls.{Slice, Parse, ParseAvp, Write, TandrekilyMessage, TandrekilyAvp, TandrekilyWrite}
+use Rattle.promises.proofs.OneOutcome.Calls.{Slice, Parse, ParseAvp, Write, TandrekilyMessage, TandrekilyAvp, TandrekilyWrite}
 
 -- ---- in Rattle: the answer is a refusal
 

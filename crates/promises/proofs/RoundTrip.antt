@@ -35,7 +35,7 @@ use Rattle.writer.specs.declared.Written.the-variants as writer
 use Rattle.writer.specs.Answers as writers
 use Rattle.writer.specs.Answers.{fieldsAs}
 use Rattle.writer.proofs.AnswerOf.{answer-of-injective}
-use Rattle.promises.proofs.Calls.{Slice, Parse, Write}
+use Rattle.promises.proofs.OneOutcome.Calls.{Slice, Parse, Write}
 
 lawful : (r : Reading) → Lawful (dictionary r)
 unfolding dictionary
