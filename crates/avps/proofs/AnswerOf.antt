@@ -1,5 +1,5 @@
 -- The contract of `parse_avps` names one outcome: it can be read back from its answer, since what an acceptance returns is told by its
--- fields and a refusal by its number and amount.
+-- fields, and a refusal is the answer's own.
 use mathlib.Core.Path.{_≡_, refl, sym, ap, _∙_}
 use Rattle.refusal.specs.Answer.{Answer, accepted, refused}
 use Rattle.rfc6733.specs.Decoder as definition

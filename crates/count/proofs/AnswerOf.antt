@@ -1,5 +1,5 @@
--- The contract of `count_run` names one outcome: it can be read back from its answer, since an acceptance is told by its two sums and
--- a refusal by its number and amount.
+-- The contract of `count_run` names one outcome: it can be read back from its answer, since an acceptance is told by its two sums, and a
+-- refusal is the answer's own.
 use mathlib.Core.Path.{_≡_, refl, sym, ap, _∙_}
 use Rattle.refusal.specs.Answer.{Answer, accepted, refused}
 use Rattle.count.specs.declared.Counted.{Counted}

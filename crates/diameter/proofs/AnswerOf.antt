@@ -1,5 +1,5 @@
 -- A contract that says `answerOf r ≡ ..` names one outcome: the outcome can be read back from its answer, since what an acceptance
--- returns is told by its fields and a refusal by its number and amount. So two outcomes with the same answer are the same.
+-- returns is told by its fields, and a refusal is the answer's own. So two outcomes with the same answer are the same.
 use mathlib.Core.Path.{_≡_, refl, sym, ap, _∙_}
 use Rattle.refusal.specs.Answer.{Answer, accepted, refused}
 use Rattle.rfc6733.specs.Decoder as definition

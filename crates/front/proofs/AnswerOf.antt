@@ -1,5 +1,5 @@
--- A contract that says `answerOf r ≡ ..` names one outcome: the outcome can be read back from its answer, since a refusal is told by
--- its number. So two outcomes with the same answer are the same.
+-- A contract that says `answerOf r ≡ ..` names one outcome: the AVP and the refusal are the answer's own, so the outcome can be read back
+-- from it, and two outcomes with the same answer are the same.
 use mathlib.Core.Path.{_≡_, refl, sym, ap, _∙_}
 use Rattle.refusal.specs.Answer.{Answer, accepted, refused}
 use Rattle.avp.specs.declared.AVP.{AVP}

@@ -1,5 +1,5 @@
--- A contract that says `answerOf r ≡ ..` names one outcome: the outcome can be read back from its answer, since a refusal is told by its
--- number and its amount. And header fields that are the same to the definition are the same.
+-- A contract that says `answerOf r ≡ ..` names one outcome: the total and the refusal are the answer's own, so the outcome can be read
+-- back from it. And header fields that are the same to the definition are the same.
 use Prim.Native.Nat.{ℕ}
 use mathlib.Core.Path.{_≡_, refl, sym, ap, _∙_}
 use Rattle.refusal.specs.Answer.{Answer, accepted, refused}
