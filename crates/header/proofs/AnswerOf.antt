@@ -30,9 +30,5 @@ unfolding headerAs answerOf
 outcome-is-back (Accepted h e) = refl
 outcome-is-back (Refused why) = refl
 
-pub header-as-injective : (h h′ : Header) → headerAs h ≡ headerAs h′ → h ≡ h′
-unfolding headerAs
-header-as-injective h h′ e = ap header-back e
-
 pub answer-of-injective : (r r′ : Parsed) → answerOf r ≡ answerOf r′ → r ≡ r′
 answer-of-injective r r′ e = sym (outcome-is-back r) ∙ ap outcome-back e ∙ outcome-is-back r′

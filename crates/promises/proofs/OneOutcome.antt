@@ -18,6 +18,7 @@ use Rattle.octets.proofs.be_u64.Reads as be-u64
 use Rattle.octets.proofs.to_be_u24.Reads as to-be-u24
 use Rattle.octets.proofs.to_be_u32.Reads as to-be-u32
 use Rattle.octets.proofs.to_be_u64.Reads as to-be-u64
+use Rattle.octets.proofs.at_hand.length.Reads as length
 use Rattle.rfc3629.proofs.is_utf8.Reads as is-utf8
 use Rattle.refusal.proofs.Refusal.number.Reads as number
 use Rattle.refusal.proofs.Refusal.amount.Reads as amount
@@ -30,7 +31,6 @@ use Rattle.attribute.proofs.Attribute.read.Reads as attribute-read
 use Rattle.attribute.proofs.Reading.dictionary.Reads as reading-dictionary
 use Rattle.attribute.proofs.kind_table.Reads as kind-table
 use Rattle.attribute.proofs.kind.Reads as kind
-use Rattle.octets.proofs.at_hand.length.Reads as length
 use Rattle.header.proofs.Header.is_request.Reads as is-request
 use Rattle.header.proofs.Header.is_proxiable.Reads as is-proxiable
 use Rattle.header.proofs.Header.is_error.Reads as is-error
@@ -46,8 +46,8 @@ use Rattle.avp.proofs.AVP.get_reserved.Reads as avp-get-reserved
 use Rattle.avp.proofs.AVP.header_size_of.Reads as header-size-of
 use Rattle.avp.proofs.AVP.header_size.Reads as header-size
 use Rattle.avp.proofs.AVP.padding.Reads as padding
-use Rattle.front.proofs.first_avp.Reads as complete
-use Rattle.front.proofs.parse.Reads as head
+use Rattle.front.proofs.first_avp.Reads as first-avp
+use Rattle.front.proofs.parse.Reads as front-parse
 use Rattle.front.proofs.tiles.Reads as tiles
 use Rattle.record.proofs.Record.get.Reads as record-get
 use Rattle.record.proofs.Record.read.Reads as record-read
@@ -105,6 +105,9 @@ to-be-u32-one κs a r r′ s p q = p ∙ sym q
 to-be-u64-one : Single to-be-u64.Post
 to-be-u64-one κs a r r′ s p q = p ∙ sym q
 
+length-one : Single length.Post
+length-one κs a r r′ s p q = p ∙ sym q
+
 -- ---- rfc3629
 
 is-utf8-one : Single is-utf8.Post
@@ -152,9 +155,6 @@ kind-one : Single kind.Post
 kind-one κs a r r′ s p q = p ∙ sym q
 
 -- ---- header
-
-length-one : Single length.Post
-length-one κs a r r′ s p q = p ∙ sym q
 
 is-request-one : Single is-request.Post
 is-request-one κs a r r′ s p q = p ∙ sym q
@@ -205,11 +205,11 @@ padding-one κs a r r′ s p q = p ∙ sym q
 
 -- ---- front
 
-complete-one : Single complete.Post
-complete-one κs a r r′ s p q = p ∙ sym q
+first-avp-one : Single first-avp.Post
+first-avp-one κs a r r′ s p q = p ∙ sym q
 
-head-one : Single head.Post
-head-one κs a r r′ s p q = front-answers.answer-of-injective r r′ (p ∙ sym q)
+front-parse-one : Single front-parse.Post
+front-parse-one κs a r r′ s p q = front-answers.answer-of-injective r r′ (p ∙ sym q)
 
 tiles-one : Single tiles.Post
 tiles-one κs a r r′ s p q = p ∙ sym q

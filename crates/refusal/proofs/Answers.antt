@@ -5,7 +5,7 @@ use mathlib.Core.Bool.{Bool, true, false, cond, not, _&&_}
 use mathlib.Core.List.{List, [], _∷_, _++_, append-nil}
 use native.Mathlib.Omega.{arith}
 use lib.Dec.{ltb}
-use borrow.Author.Tests.{ltb-false, le-ltb, not-true, not-false}
+use borrow.Author.Tests.{ltb-false, not-true, not-false}
 use Rattle.octets.proofs.Runs.{false-true}
 use Rattle.refusal.specs.Answer.{Refusal, accepted, refused, Test, answer, passes}
 
@@ -23,9 +23,6 @@ true-and e f = rw (e, f)
 -- a test that did not refuse
 pub kept-lt : (m n : ℕ) → not (ltb m n) ≡ true → n ≤ m
 kept-lt m n e = ltb-false m n (not-true (ltb m n) e)
-
-pub lt-kept : (m n : ℕ) → n ≤ m → not (ltb m n) ≡ true
-lt-kept m n h = rw (le-ltb m n h)
 
 pub kept-not : (b : Bool) → not (not b) ≡ true → b ≡ true
 kept-not b e = not-false b (not-true (not b) e)

@@ -90,6 +90,3 @@ deepest-tried done = omega arith
 deepest-tried broken = omega arith
 deepest-tried (plain a rest) = omega (arith, deepest-tried rest)
 deepest-tried (group a inner rest) = omega (arith, deepest-tried inner, deepest-tried rest)
-
-pub deepest-length : (D : Dictionary) (s : List ℕ) → deepest (tree (avps D) s) ≤ length s
-deepest-length D s = omega (arith, deepest-tried (tree (avps D) s), tried-length D s)
