@@ -8,7 +8,7 @@ use mathlib.Core.Logic.{inl, inr}
 use mathlib.Core.List.{List}
 use native.Mathlib.Omega.{arith}
 use lib.ListN.{length}
-use Rattle.octets.specs.Run.{item, after, Tree, done, broken, plain, group, node, tree, tiles, tried, deepest}
+use Rattle.octets.specs.Run.{item, after, Tree, node, tree, tiles, tried}
 use Rattle.octets.proofs.Runs.{false-true, Parts, tree-none, tree-step, by-run}
 use Rattle.rfc6733.specs.Avp.{flags, headSize, dataSize, padding, avpSize, payload, complete}
 use Rattle.rfc6733.specs.Dictionary.{Dictionary}
@@ -83,10 +83,3 @@ tried-bound D s e = few D s .tiled e
 pub tried-length : (D : Dictionary) (s : List ℕ) → tried (tree (avps D) s) ≤ length s
 unfolding words
 tried-length D s = let f = few D s .any in omega arith
-
--- and so do the levels, of which each has a header tried
-deepest-tried : (t : Tree) → deepest t ≤ tried t
-deepest-tried done = omega arith
-deepest-tried broken = omega arith
-deepest-tried (plain a rest) = omega (arith, deepest-tried rest)
-deepest-tried (group a inner rest) = omega (arith, deepest-tried inner, deepest-tried rest)
