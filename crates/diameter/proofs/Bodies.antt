@@ -1,26 +1,21 @@
--- What is known of a message once its header was accepted: its body is the run that the definition reads, so the message is refused as
--- the body is, and else accepted with the body's counts.
+-- Once the header of a message was accepted, its body is the run that the definition reads; so the message is refused as the body is, and
+-- else accepted with the body's counts.
 use Prim.Native.Nat.{ℕ, _-_, _≤_}
 use mathlib.Core.Path.{_≡_, sym, ap, _∙_}
 use mathlib.Core.Bool.{true}
 use mathlib.Core.List.{List}
 use native.Mathlib.Omega.{arith}
 use lib.ListN.{take, drop, length-take}
-use Rattle.refusal.specs.Answer.{Refusal, passes, accepted, refused, answer}
+use Rattle.refusal.specs.Answer.{Refusal, accepted, refused, answer}
 use Rattle.flags.specs.Flags.{join}
-use Rattle.rfc6733.specs.Header as rfc
-use Rattle.rfc6733.specs.Header.{messageLength, headerOf, headerErrors, headerRefusals}
 use Rattle.rfc6733.specs.Dictionary.{Dictionary}
-use Rattle.rfc6733.specs.Decoder as definition
-use Rattle.rfc6733.specs.Decoder.{allowed, headerAlone, runCounts, messageBody, messageRecords, messageOf, decoded}
+use Rattle.rfc6733.specs.Decoder.{allowed, runCounts, messageRecords, messageOf, decoded}
 use Rattle.record.specs.Store.{stored}
 use Rattle.refusal.proofs.Answers as answers
 use Rattle.refusal.proofs.Answers.{passed, answer-alike}
-use Rattle.rfc6733.proofs.Accepted as accepted-message
-use Rattle.rfc6733.proofs.Accepted.{headed}
 use Rattle.header.specs.declared.Header.{Header}
-use Rattle.header.specs.Parsed.{headerAs}
-use Rattle.header.specs.Parsed as header
+use Rattle.header.proofs.Bodies as header
+use Rattle.header.proofs.Bodies.{Body}
 use Rattle.rfc6733.proofs.Decoded.{rest, message-past}
 use Rattle.avps.specs.declared.Counts.{Counts}
 use Rattle.avps.specs.declared.Filled.{Filled}
@@ -33,30 +28,8 @@ use Rattle.diameter.specs.declared.Message.{Message}
 use Rattle.diameter.specs.declared.Decoded.the-variants.{Accepted}
 use Rattle.diameter.specs.Answers.{Headed, messageAs, answerOf}
 
--- the header is the definition's
-pub record Body (h : Header) (own : ℕ) (s : List ℕ) : Type 0 where
-  pub passes-all : passes (headerRefusals s) ≡ true
-  pub header-is : headerAs h ≡ headerOf s
-  pub errors-are : own ≡ headerErrors s
-  pub length-is : h .length ≡ messageLength s
-  pub facts : accepted-message.Headed s
-  -- bytes 20..length
-  pub body-is : take (h .length - 20) (drop 20 s) ≡ messageBody s
-
 pub body : (h : Header) (own : ℕ) (s : List ℕ) → Headed h own s → Body h own s
-unfolding header.answerOf headerAlone headerAs headerOf messageBody
-body h own s e =
-    let p = passed (headerRefusals s) _ _ (sym (e .is)) in
-    let hd : headerOf s ≡ headerAs h = ap (λ (m : definition.Message). m .header) (p .1) in
-    let l : h .length ≡ messageLength s = ap (λ (x : rfc.Header). x .length) (sym hd) in
-    record {
-      passes-all = p .0;
-      header-is = sym hd;
-      errors-are = sym (ap (λ (m : definition.Message). m .counts .errors) (p .1));
-      length-is = l;
-      facts = headed s (p .0);
-      body-is = ap (λ (n : ℕ). take (n - 20) (drop 20 s)) l;
-    }
+body h own s e = header.body h own s (e .is)
 
 -- ---- the answer and the store, from those of the body
 

@@ -1,2 +1,3 @@
 pub mod AnswerOf
 pub mod HeaderAlone
+pub mod Bodies

@@ -1,10 +1,10 @@
 -- Parts of a list, as code lends them, and bytes over the front of others.
 use Prim.Native.Nat.{ℕ, _+_, _-_, _≤_}
-use mathlib.Core.Path.{_≡_, refl}
+use mathlib.Core.Path.{_≡_, refl, sym, _∙_}
 use mathlib.Core.List.{List, [], _++_, append-cancel-left, append-assoc, append-nil}
 use native.Mathlib.Omega.{arith}
-use lib.ListN.{length, take, drop, length-append, length-drop}
-use lib.Seq.{take-take, take-add, take-length, drop-length, take-at, drop-at, drop-drop, length-take-le}
+use lib.ListN.{length, take, drop, length-append, length-take, length-drop}
+use lib.Seq.{take-all, take-take, take-add, take-length, drop-length, take-at, drop-at, drop-drop, length-take-le}
 use borrow.Rule.Slice.PartMut.{putMid}
 use Rattle.octets.specs.Octets.{over}
 
@@ -17,6 +17,12 @@ pub part-of-front : (h d k : ℕ) (s : List ℕ) → h + d ≤ k → take d (dro
 part-of-front h d k s le =
     append-cancel-left (take h s) (take d (drop h (take k s))) (take d (drop h s))
     (cc (take-take h k s (omega arith), take-take (h + d) k s le, take-add h d (take k s), take-add h d s))
+
+-- what is behind the first l of n elements, as `&s[l..n]` lends it
+pub behind : (l n : ℕ) (s : List ℕ) → l ≤ n → n ≤ length s → drop l (take n s) ≡ take (n - l) (drop l s)
+behind l n s h room =
+    sym (take-all (n - l) (drop l (take n s)) (omega (arith, length-drop l (take n s), length-take n s)))
+    ∙ part-of-front l (n - l) n s (omega arith)
 
 -- ---- bytes over the front of others
 

@@ -19,10 +19,10 @@ use Rattle.record.specs.Store.{capacity}
 use Rattle.rfc6733.specs.Decoder.{allowed, messageBody, messageRecords, messageRefusals, messageOf, decoded}
 use Rattle.rfc6733.specs.Records.{avps}
 use Rattle.record.specs.Forest.{forest}
-use Rattle.record.specs.Table.{tableOf}
+use Rattle.record.specs.Table.{tableOf, ofDepth}
 use Rattle.rfc6733.specs.Writer.{tableBytes, output}
 use Rattle.refusal.proofs.Answers.{accepts, passes-append}
-use Rattle.round_trip.specs.Tops.{tops, topRecords, roots, ofDepth}
+use Rattle.round_trip.specs.Tops.{tops, topRecords, roots}
 use Rattle.round_trip.proofs.Written.{written-writable}
 use Rattle.round_trip.proofs.ReadBack.{read-back}
 use Rattle.attribute.specs.declared.Reading.{Reading}

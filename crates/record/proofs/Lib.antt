@@ -1,4 +1,5 @@
 pub mod Layouts
+pub mod Outlines
 pub mod Absent
 pub mod Copied
 pub mod Fields

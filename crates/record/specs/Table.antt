@@ -1,7 +1,9 @@
 -- A table of records as the writers take it.
 use Prim.Native.Nat.{ℕ, zero, suc, _/_}
+use mathlib.Core.Bool.{cond}
 use mathlib.Core.List.{List, [], _∷_}
 use lib.ListN.{length, drop}
+use lib.Dec.{eqb}
 use Rattle.record.specs.Record.{Record, recordSize, recordAt}
 
 -- a record with other error flags and another value
@@ -36,3 +38,8 @@ recordsIn (suc n) s = entryAt s ∷ recordsIn n (drop recordSize s)
 
 unfoldable pub tableOf : List ℕ → List Record
 tableOf s = recordsIn (length s / recordSize) s
+
+-- those of one depth
+abbrev pub ofDepth : ℕ → List Record → List Record
+ofDepth d [] = []
+ofDepth d (r ∷ rs) = cond (eqb (r .depth) d) (r ∷ ofDepth d rs) (ofDepth d rs)

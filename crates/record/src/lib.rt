@@ -1,6 +1,7 @@
 // The record of an AVP and its 32 bytes (docs/FORMAT.md, 6): written to a store and read from a table.
 // This crate knows the layout, and nothing of how a record comes about.
 pub mod kinds;
+pub mod outline;
 
 ghost use mathlib.Core.Path.{_≡_};
 ghost use mathlib.Core.List.{_++_, reverse};

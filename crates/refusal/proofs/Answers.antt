@@ -79,3 +79,31 @@ answer-first (r ∷ rs) ts x y why e = by (r .given) (answer-first rs ts x y why
 -- the same refusals give the same refusal, whatever an acceptance were to return
 pub answer-alike : {A B : Type 0} (rs : List Test) (x : A) (y : B) (why : Refusal) → answer rs x ≡ refused why → answer rs y ≡ refused why
 answer-alike rs x y why e = ap (λ (ts : List Test). answer ts y) (sym (append-nil rs)) ∙ answer-first rs [] x y why e
+
+-- where some of them refuse, what comes after does not count
+pub answer-before : {A B : Type 0} (rs ts us : List Test) (x : A) (y : B) (why : Refusal) → passes rs ≡ false
+    → answer (rs ++ ts) x ≡ refused why → answer (rs ++ us) y ≡ refused why
+answer-before [] ts us x y why e f = absurd (false-true (sym e))
+answer-before (r ∷ rs) ts us x y why e f = by (r .given) (answer-before rs ts us x y why) e f
+  where
+    by : (b : Bool) → (passes rs ≡ false → answer (rs ++ ts) x ≡ refused why → answer (rs ++ us) y ≡ refused why)
+        → not b && passes rs ≡ false → cond b (refused (r .refusal)) (answer (rs ++ ts) x) ≡ refused why
+        → cond b (refused (r .refusal)) (answer (rs ++ us) y) ≡ refused why
+    by true rest e f = cc
+    by false rest e f = rest e f
+
+-- none of them gives this refusal
+abbrev pub Other : Refusal → List Test → Type 0
+Other why [] = Unit {0}
+Other why (t ∷ ts) = (t .refusal ≡ why → ⊥) × Other why ts
+
+-- so where it is given, a later one gives it
+pub answer-later : {A : Type 0} (rs ts : List Test) (x : A) (why : Refusal) → Other why rs → answer (rs ++ ts) x ≡ refused why
+    → (passes rs ≡ true) × (answer ts x ≡ refused why)
+answer-later [] ts x why o e = (refl, e)
+answer-later (r ∷ rs) ts x why o e = by (r .given) (answer-later rs ts x why (o .1)) e
+  where
+    by : (b : Bool) → (answer (rs ++ ts) x ≡ refused why → (passes rs ≡ true) × (answer ts x ≡ refused why))
+        → cond b (refused (r .refusal)) (answer (rs ++ ts) x) ≡ refused why → (not b && passes rs ≡ true) × (answer ts x ≡ refused why)
+    by true rest f = absurd (o .0 cc)
+    by false rest f = rest f

@@ -3,12 +3,14 @@ pub mod Complete
 pub mod Items
 pub mod Tiling
 pub mod RunRecords
+pub mod Outlines
 pub mod RunErrors
 pub mod Alone
 pub mod Tried
 pub mod Messages
 pub mod Decoded
 pub mod Accepted
+pub mod Sought
 pub mod Demand3
 pub mod MarkedMessages
 pub mod KindsRead

@@ -6,6 +6,7 @@ pub mod Dictionary
 pub mod Records
 pub mod Entered
 pub mod Decoder
+pub mod Search
 pub mod Writer
 pub mod Dump
 pub mod Marked

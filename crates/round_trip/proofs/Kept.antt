@@ -15,7 +15,8 @@ use Rattle.rfc6733.specs.Writer.{allowedAfter}
 use Rattle.refusal.proofs.Tests.{decide}
 use Rattle.round_trip.specs.Forests.{count}
 use Rattle.round_trip.specs.Rules.{Valid, Kept}
-use Rattle.round_trip.specs.Tops.{roots, ofDepth}
+use Rattle.record.specs.Table.{ofDepth}
+use Rattle.round_trip.specs.Tops.{roots}
 use Rattle.round_trip.proofs.Rules.{keeps-good, good-at, keeps-at}
 
 -- ---- kept

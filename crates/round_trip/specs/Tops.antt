@@ -1,8 +1,6 @@
 -- What stands at the top level: code, flags, vendor, data and padding of each AVP, in a run and in a table.
 use Prim.Native.Nat.{ℕ}
-use mathlib.Core.Bool.{cond}
 use mathlib.Core.List.{List, [], _∷_}
-use lib.Dec.{eqb}
 use Rattle.octets.specs.Run.{Tree, done, broken, plain, group}
 use Rattle.rfc6733.specs.Avp as avp
 use Rattle.record.specs.Record.{Record}
@@ -50,11 +48,7 @@ abbrev pub topRecords : List ℕ → Forest → List Top
 topRecords pool none = []
 topRecords pool (node r members rest) = topRecord r (bodyOf pool r (forestBytes pool members)) ∷ topRecords pool rest
 
--- the records at the top of a forest, and those of one depth in a table
+-- the records at the top of a forest
 abbrev pub roots : Forest → List Record
 roots none = []
 roots (node r members rest) = r ∷ roots rest
-
-abbrev pub ofDepth : ℕ → List Record → List Record
-ofDepth d [] = []
-ofDepth d (r ∷ rs) = cond (eqb (r .depth) d) (r ∷ ofDepth d rs) (ofDepth d rs)

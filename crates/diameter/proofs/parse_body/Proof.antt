@@ -10,7 +10,8 @@ use Rattle.avps.specs.Answers as avps
 use Rattle.avps.specs.Answers.{lastPlace}
 use Rattle.avps.proofs.Told.{told}
 use Rattle.diameter.specs.Answers.{answerOf}
-use Rattle.diameter.proofs.Bodies.{Body, body, refuses, accepts}
+use Rattle.header.proofs.Bodies.{Body}
+use Rattle.diameter.proofs.Bodies.{body, refuses, accepts}
 use Rattle.diameter.proofs.parse_body.Statement.{statement}
 use Rattle.diameter.proofs.parse_body.Tie as tie
 
