@@ -11,7 +11,6 @@ ghost use mathlib.Core.Bool.{true, not};
 ghost use Prim.Native.Nat.{_-_, _≤_, _<_};
 ghost use lib.ListN.{length};
 ghost use lib.Dec.{eqb};
-ghost use Rattle.octets.specs.Octets.{be};
 ghost use Rattle.octets.specs.Run.{tree, tiles};
 ghost use Rattle.flags.specs.Flags.{join, flag, nonZeroReserved, nonZeroPadding};
 ghost use Rattle.rfc6733.specs.Avp.{Exact, avpReserved};
@@ -33,19 +32,6 @@ pub(super) struct Valued {
     pub number: u64,
     pub errors: u8,
     pub records: usize,
-}
-
-// The padding as a number of three bytes, the absent ones 0.
-fn pads(p: &[u8]) -> u32
-    requires { ⌜ length (now p) ≤ 3 ⌝ }
-    ensures { λ r. ⌜ r ≡ be 3 (now (p .entry)) 0 ⌝ }
-{
-    match p.len() {
-        0 => 0,
-        1 => octets::be_u24(p[0], 0, 0),
-        2 => octets::be_u24(p[0], p[1], 0),
-        _ => octets::be_u24(p[0], p[1], p[2]),
-    }
 }
 
 // The flags of reserved bits and of padding.
@@ -121,7 +107,7 @@ fn read_avp(
         left,
         &mut store[Record::SIZE..],
     );
-    let pads = pads(&s[to..]);
+    let pads = front::pads(&s[to..]);
     let errors = flags::join(own_errors(a, pads), value.errors);
     Record {
         code: a.code,

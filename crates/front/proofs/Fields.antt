@@ -1,17 +1,18 @@
 -- An AVP's fields and sizes as the code finds them, byte by byte: they are those of the definition.
-use Prim.Native.Nat.{ℕ, _+_, _-_, _≤_}
+use Prim.Native.Nat.{ℕ, _+_, _-_, _/_, _%_, _≤_}
 use mathlib.Core.Path.{_≡_, sym, ap, _∙_}
 use mathlib.Core.Bool.{true, false}
 use mathlib.Core.List.{List}
 use native.Mathlib.Omega.{arith}
 use lib.ListN.{length, getD}
-use Rattle.octets.specs.Octets.{Reads, be}
+use Rattle.octets.specs.Octets.{Reads, Bytes, be}
 use Rattle.octets.proofs.Numbers.{bytes, read-at, one-byte}
 use Rattle.flags.specs.Flags.{bit}
 use Rattle.rfc6733.specs.Avp.{flags, avpLength, vendorBit, headSize, vendor, dataSize, padding, avpSize}
 use Rattle.rfc6733.proofs.Complete.{Whole, sizes}
 use Rattle.avp.specs.declared.AVP.{AVP}
 use Rattle.front.specs.Front.{avpOf}
+use Rattle.front.proofs.Words.{high-byte, low-three}
 
 module _ (s : List ℕ) where
   -- l is the length that the AVP states, and h its header's size
@@ -21,6 +22,17 @@ module _ (s : List ℕ) where
 
   pub stated : (l h : ℕ) → Reads 3 (bytes 3 s 5) l → h ≡ headSize (getD s 4 0) → Stated l h
   stated l h length header = record { length-is = read-at 3 s 5 l length; header-is = header ∙ ap headSize (sym (one-byte s 4)) }
+
+  -- the same of the word that holds the flags and the length
+  pub flags-of-word : (w : ℕ) → Bytes s → w ≡ be 4 s 4 → w / 0x1000000 ≡ flags s
+  flags-of-word w bytes e = ap (λ (x : ℕ). x / 0x1000000) e ∙ high-byte s bytes
+
+  pub stated-word : (w h : ℕ) → Bytes s → w ≡ be 4 s 4 → h ≡ headSize (w / 0x1000000) → Stated (w % 0x1000000) h
+  stated-word w h bytes e header =
+      record {
+        length-is = ap (λ (x : ℕ). x % 0x1000000) e ∙ low-three s bytes;
+        header-is = header ∙ ap headSize (flags-of-word w bytes e);
+      }
 
   -- p bytes of padding follow
   pub record Padded (l p : ℕ) : Type 0 where
@@ -53,11 +65,11 @@ module _ (s : List ℕ) where
 
   -- ---- all of them
 
-  pub fields-are : (a : AVP) → Reads 4 (bytes 4 s 0) (a .code) → a .flags ≡ getD s 4 0 → a .length ≡ avpLength s → a .«vendor_id» ≡ vendor s
+  pub fields-are : (a : AVP) → a .code ≡ be 4 s 0 → a .flags ≡ flags s → a .length ≡ avpLength s → a .«vendor_id» ≡ vendor s
       → a .size ≡ avpSize s → a ≡ avpOf s
   unfolding avpOf
   fields-are a code flags length vendor size =
       let e : record { code = a .code; flags = a .flags; length = a .length; «vendor_id» = a .«vendor_id»; size = a .size } ≡ avpOf s =
-      cc (read-at 4 s 0 _ code, one-byte s 4)
+      cc
       in
       e

@@ -71,18 +71,17 @@ pub record Turn (s : List ℕ) (at : ℕ) (a : AVP) : Type 0 where
   pub next : drop (at + a .size) s ≡ drop (a .size) (drop at s)
   pub own-length : length (take (a .size) (drop at s)) ≡ a .size
 
-pub turn : (s : List ℕ) (at : ℕ) (a : AVP) → at < length s → Whole a ≡ firstOf (take (length s - at) (drop at s)) → Turn s at a
-turn s at a h e =
+pub turn-at : (s : List ℕ) (at : ℕ) (a : AVP) → complete (drop at s) ≡ true → a ≡ avpOf (drop at s) → Turn s at a
+turn-at s at a c is =
     let left = drop at s in
-    let p = was-whole left a (e ∙ ap firstOf (rest s at (omega arith))) in
-    let f = here left a (p .1) in
-    let w = complete-whole left (p .0) in
+    let f = here left a is in
+    let w = complete-whole left c in
     let hd = head (flags left) in
     let z = sizes left in
     let l = length-drop at s in
     record {
-      complete-here = p .0;
-      is = p .1;
+      complete-here = c;
+      is = is;
       fields = f;
       whole = w;
       fits = omega arith;
@@ -92,6 +91,9 @@ turn s at a h e =
       next = sym (drop-drop (a .size) at s);
       own-length = length-take-le (a .size) left (omega arith);
     }
+
+pub turn : (s : List ℕ) (at : ℕ) (a : AVP) → at < length s → Whole a ≡ firstOf (take (length s - at) (drop at s)) → Turn s at a
+turn s at a h e = let p = was-whole (drop at s) a (e ∙ ap firstOf (rest s at (omega arith))) in turn-at s at a (p .0) (p .1)
 
 -- in the words of a run, whichever AVPs are entered
 module _ (nested : List ℕ → Bool) (s : List ℕ) (at : ℕ) (a : AVP) (t : Turn s at a) where

@@ -2,3 +2,4 @@ pub mod AnswerOf
 pub mod Fields
 pub mod Fronts
 pub mod Refusals
+mod Words

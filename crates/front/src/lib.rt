@@ -1,5 +1,7 @@
-// The AVP at the front of a slice, and whether AVPs tile.
+// The AVP at the front of a slice, its padding, and whether AVPs tile.
 // This crate knows an AVP's header and padding, and nothing of what its data mean.
+mod word;
+
 use avp::AVP;
 use octets::at_hand::Available;
 use refusal::Refusal;
@@ -7,6 +9,7 @@ ghost use Prim.Native.Nat.{_≤_};
 ghost use mathlib.Core.Path.{_≡_};
 ghost use mathlib.Core.Bool.{false};
 ghost use lib.ListN.{length};
+ghost use Rattle.octets.specs.Octets.{be};
 ghost use Rattle.rfc6733.specs.Avp.{flags, headSize, vendor, complete};
 ghost use Rattle.rfc6733.specs.Records.{tiling};
 ghost use Rattle.refusal.specs.Answer.{refused};
@@ -30,7 +33,7 @@ fn vendor_id(s: &[u8]) -> u32
     ensures { λ r. ⌜ r ≡ vendor (now (s .entry)) ⌝ }
 {
     if AVP::vendor_specific_flag(s[4]) {
-        return octets::be_u32(s[8], s[9], s[10], s[11]);
+        return word::be_u32(s, 8);
     }
     0
 }
@@ -72,8 +75,10 @@ pub fn first_avp(s: &[u8]) -> First
     if available < AVP::PRE_LENGTH_SIZE {
         return First::Broken;
     }
-    let flags = s[4];
-    let length = octets::be_u24(s[5], s[6], s[7]) as usize;
+    // A byte of flags, and three of the length (RFC 6733, section 4.1).
+    let flags_length = word::be_u32(s, 4);
+    let flags = (flags_length / 0x100_0000) as u8;
+    let length = (flags_length % 0x100_0000) as usize;
     let header_size = AVP::header_size_of(flags);
     if length < header_size {
         return First::Broken;
@@ -83,7 +88,7 @@ pub fn first_avp(s: &[u8]) -> First
         return First::Broken;
     }
     First::Whole(AVP {
-        code: octets::be_u32(s[0], s[1], s[2], s[3]),
+        code: word::be_u32(s, 0),
         flags,
         length,
         vendor_id: vendor_id(s),
@@ -98,6 +103,18 @@ pub fn parse(s: &[u8]) -> ParsedAvp
     match first_avp(s) {
         First::Whole(a) => ParsedAvp::Accepted(a),
         First::Broken => ParsedAvp::Refused(refusal(s)),
+    }
+}
+
+/// The padding as a number of three bytes, those that are absent 0.
+pub fn pads(p: &[u8]) -> u32
+    ensures { λ r. ⌜ r ≡ be 3 (now (p .entry)) 0 ⌝ }
+{
+    match p.len() {
+        0 => 0,
+        1 => octets::be_u24(p[0], 0, 0),
+        2 => octets::be_u24(p[0], p[1], 0),
+        _ => octets::be_u24(p[0], p[1], p[2]),
     }
 }
 

@@ -4,3 +4,4 @@ pub mod Refusals
 pub mod Decoder
 pub mod RoundTrip
 pub mod ReadBack
+pub mod Index

@@ -1,16 +1,19 @@
 -- Every public function of every crate has one outcome: no second result meets its contract at the same arguments. `Post` is the
 -- contract as the check reads it from the source, so a contract that says less no longer proves its line here.
 pub mod Calls
+mod ByHand
 use Prim.Native.Nat.{ℕ}
-use mathlib.Core.Path.{_≡_, sym, _∙_}
+use mathlib.Core.Path.{_≡_, sym, ap₂, _∙_}
 use mathlib.Core.Bool.{Bool}
 use contract.Lifetimes.{Lfts}
-use denote.Ref.{now}
+use denote.Ref.{RefT, now}
 use Rattle.attribute.specs.declared.Reading.{Reading}
 use Rattle.attribute.specs.declared.Dictionary.{Dictionary}
 use Rattle.record.specs.Record.{Record}
+use Rattle.reader.specs.declared.Reader.{Reader}
 use Rattle.writer.specs.declared.Fields.{Fields}
-use Rattle.promises.proofs.OneOutcome.Calls.{Slice, RecordPut, ParseAvps, Parse, ParseAvp, Dump, Write, TandrekilyMessage, TandrekilyHeader, TandrekilyAvp, TandrekilyWrite}
+use Rattle.promises.proofs.OneOutcome.Calls.{Slice, RecordPut, ParseAvps, Parse, ParseAvp, Dump, Write, TandrekilyMessage, TandrekilyHeader, TandrekilyAvp, TandrekilyFind, TandrekilyNext, TandrekilyWrite}
+use Rattle.promises.proofs.OneOutcome.ByHand.{ReaderNew, ReaderNext, ReaderFind}
 use Rattle.octets.proofs.be_u16.Reads as be-u16
 use Rattle.octets.proofs.be_u24.Reads as be-u24
 use Rattle.octets.proofs.be_u32.Reads as be-u32
@@ -48,7 +51,11 @@ use Rattle.avp.proofs.AVP.header_size.Reads as header-size
 use Rattle.avp.proofs.AVP.padding.Reads as padding
 use Rattle.front.proofs.first_avp.Reads as first-avp
 use Rattle.front.proofs.parse.Reads as front-parse
+use Rattle.front.proofs.pads.Reads as pads
 use Rattle.front.proofs.tiles.Reads as tiles
+use Rattle.reader.proofs.Step.answer.Reads as step-answer
+use Rattle.reader.proofs.step_at.Reads as step-at
+use Rattle.reader.proofs.find.Reads as find
 use Rattle.record.proofs.Record.get.Reads as record-get
 use Rattle.record.proofs.Record.read.Reads as record-read
 use Rattle.value.proofs.Value.new.Reads as value-new
@@ -62,6 +69,7 @@ use Rattle.tandrekily.proofs.tandrekily_is_utf8.Reads as tandrekily-is-utf8
 use Rattle.tandrekily.proofs.tandrekily_unix_seconds.Reads as tandrekily-unix-seconds
 use Rattle.header.proofs.AnswerOf as header-answers
 use Rattle.front.proofs.AnswerOf as front-answers
+use Rattle.reader.proofs.AnswerOf as reader-answers
 use Rattle.value.proofs.ReadAs.{one-value}
 use Rattle.count.proofs.AnswerOf as count-answers
 use Rattle.avps.proofs.AnswerOf as avps-answers
@@ -73,9 +81,9 @@ use Rattle.writer.proofs.AnswerOf as writer-answers
 abbrev Single {i j k l m} : {K : Type i} {A : K → Type j} {R : K → Type k} {S : K → Type l} → ((κs : K) → A κs → R κs → S κs → Type m) → Type (i ⊔ j ⊔ k ⊔ l ⊔ m)
 Single {K = K} {A = A} {R = R} {S = S} Post = (κs : K) (a : A κs) (r r′ : R κs) (s : S κs) → Post κs a r s → Post κs a r′ s → r ≡ r′
 
--- And where it may change a slice: the results are the same, and what the slice holds afterwards.
-abbrev Settled : {R : Type 0} → (R → Slice → Type 0) → Type 0
-Settled {R = R} Call = (r r′ : R) (after after′ : Slice) → Call r after → Call r′ after′ → (r ≡ r′) × (now after ≡ now after′)
+-- And where it may change what is behind a reference, a slice or a struct: the results are the same, and what is there afterwards.
+abbrev Settled : {R A : Type 0} → (R → RefT A → Type 0) → Type 0
+Settled {R = R} {A = A} Call = (r r′ : R) (after after′ : RefT A) → Call r after → Call r′ after′ → (r ≡ r′) × (now after ≡ now after′)
 
 -- The library answers by a slice too: what each of the two holds afterwards is the same.
 abbrev BothSettled : (Slice → Slice → Type 0) → Type 0
@@ -211,8 +219,35 @@ first-avp-one κs a r r′ s p q = p ∙ sym q
 front-parse-one : Single front-parse.Post
 front-parse-one κs a r r′ s p q = front-answers.answer-of-injective r r′ (p ∙ sym q)
 
+pads-one : Single pads.Post
+pads-one κs a r r′ s p q = p ∙ sym q
+
 tiles-one : Single tiles.Post
 tiles-one κs a r r′ s p q = p ∙ sym q
+
+-- ---- reader
+
+step-answer-one : Single step-answer.Post
+step-answer-one κs a r r′ s p q = p ∙ sym q
+
+step-at-one : Single step-at.Post
+step-at-one κs a r r′ s p q = p ∙ sym q
+
+reader-new-one : (message : Slice) (r r′ : Reader) → ReaderNew message r → ReaderNew message r′ → r ≡ r′
+reader-new-one message r r′ p q = whole (p .0 ∙ sym (q .0)) (p .1 ∙ sym (q .1))
+  where
+    -- a reader is its payload and its place
+    whole : r .payload ≡ r′ .payload → r .place ≡ r′ .place → r ≡ r′
+    whole e f = ap₂ (λ (payload : Slice) (place : ℕ). record { payload = payload; place = place }) e f
+
+reader-next-one : (self : RefT Reader) → Settled (ReaderNext self)
+reader-next-one self r r′ after after′ p q = (p .found-is ∙ sym (q .found-is), p .reader-is ∙ sym (q .reader-is))
+
+reader-find-one : (self : RefT Reader) (code : ℕ) → Settled (ReaderFind self code)
+reader-find-one self code r r′ after after′ p q = (p .found-is ∙ sym (q .found-is), p .reader-is ∙ sym (q .reader-is))
+
+find-one : Single find.Post
+find-one κs a r r′ s p q = reader-answers.answer-of-injective r r′ (p ∙ sym q)
 
 -- ---- record
 
@@ -305,6 +340,13 @@ tandrekily-header-one κs input result after after′ p q = p ∙ sym q
 tandrekily-avp-one : (κs : Lfts 3) (rfc : Bool) (limit : ℕ) (input store result : Slice)
     → BothSettled (TandrekilyAvp κs rfc limit input store result)
 tandrekily-avp-one κs rfc limit input store result _ _ _ _ p q = (p .1 ∙ sym (q .1), p .0 ∙ sym (q .0))
+
+tandrekily-find-one : (κs : Lfts 2) (input : Slice) (code : ℕ) (result after after′ : Slice) → TandrekilyFind κs input code result after
+    → TandrekilyFind κs input code result after′ → now after ≡ now after′
+tandrekily-find-one κs input code result after after′ p q = p ∙ sym q
+
+tandrekily-next-one : (κs : Lfts 2) (message : Slice) (place : ℕ) (result : Slice) → Settled (TandrekilyNext κs message place result)
+tandrekily-next-one κs message place result r r′ after after′ p q = (p .0 ∙ sym (q .0), p .1 ∙ sym (q .1))
 
 tandrekily-write-one : (κs : Lfts 4) (flags code appId hopId endId : ℕ) (table pool out result : Slice)
     → BothSettled (TandrekilyWrite κs flags code appId hopId endId table pool out result)

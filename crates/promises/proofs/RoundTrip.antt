@@ -37,18 +37,18 @@ use Rattle.writer.specs.Answers.{fieldsAs}
 use Rattle.writer.proofs.AnswerOf.{answer-of-injective}
 use Rattle.promises.proofs.OneOutcome.Calls.{Slice, Parse, Write}
 
-lawful : (r : Reading) → Lawful (dictionary r)
+pub lawful : (r : Reading) → Lawful (dictionary r)
 unfolding dictionary
 lawful Sawp = sawp-lawful
 lawful Rfc = rfc-lawful
 
 -- a message m of the bytes s, that `parse` accepted and left in the store
-record Left (r : Reading) (s : List ℕ) (m : Message) (store : List ℕ) : Type 0 where
-  header-is : headerOf s ≡ headerAs (m .header)
-  length-is : messageLength s ≡ m .length
-  records-are : take (m .records * recordSize) store ≡ laid (messageRecords (dictionary r) s)
+pub record Left (r : Reading) (s : List ℕ) (m : Message) (store : List ℕ) : Type 0 where
+  pub header-is : headerOf s ≡ headerAs (m .header)
+  pub length-is : messageLength s ≡ m .length
+  pub records-are : take (m .records * recordSize) store ≡ laid (messageRecords (dictionary r) s)
 
-left : (r : Reading) (limit room : ℕ) (s : List ℕ) (m : Message) (store rest : List ℕ)
+pub left : (r : Reading) (limit room : ℕ) (s : List ℕ) (m : Message) (store rest : List ℕ)
     → decoded (dictionary r) limit room s ≡ accepted (messageAs m) → store ≡ laid (messageRecords (dictionary r) s) ++ rest → Left r s m store
 unfolding messageOf runCounts messageRecords messageAs
 left r limit room s m store rest e is =

@@ -2,14 +2,18 @@
 -- answer does not return is 0.
 use Prim.Native.Nat.{ℕ}
 use mathlib.Core.Bool.{Bool, true, false}
+use mathlib.Core.Option.{Option, none, some}
 use mathlib.Core.List.{List, _∷_}
 use lib.ListN.{length}
 use Rattle.refusal.specs.Answer.{Refusal, Answer, accepted, refused}
 use Rattle.refusal.specs.Refusals.{numberOf, amountOf}
 use Rattle.rfc6733.specs.Header.{Header, headerLayout}
 use Rattle.rfc6733.specs.Decoder.{Counts, Message, decoded, messageRecords, avpAlone, aloneRecords}
+use Rattle.record.specs.Outline.{Outline, outlineNumbers}
 use Rattle.record.specs.Store.{room, stored}
 use Rattle.rfc6733.specs.Writer.{Fields, written, tableBytes, output}
+use Rattle.reader.specs.declared.Stepped.{Stepped}
+use Rattle.reader.specs.Reading.{foundOf, answerOf}
 use Rattle.attribute.specs.Attributes.{dictionary}
 use Rattle.attribute.specs.declared.Reading.{Reading}
 use Rattle.attribute.specs.declared.Reading.the-variants.{Sawp, Rfc}
@@ -49,6 +53,24 @@ avpResult (refused why) = refusal why
 unfoldable pub writtenResult : Answer ℕ → List ℕ
 writtenResult (accepted total) = result 0 0 (bytesAlone total) noHeader
 writtenResult (refused why) = refusal why
+
+-- ---- an outline
+
+-- number, amount; is an AVP found; its outline
+abbrev pub outlineResult : ℕ → ℕ → ℕ → Outline → List ℕ
+outlineResult n a found o = n ∷ a ∷ found ∷ outlineNumbers o
+
+abbrev pub noOutline : Outline
+noOutline = record { code = 0; flags = 0; length = 0; vendor = 0; place = 0; padding = 0; pads = 0 }
+
+unfoldable pub foundResult : Answer (Option Outline) → List ℕ
+foundResult (accepted (some o)) = outlineResult 0 0 1 o
+foundResult (accepted none) = outlineResult 0 0 0 noOutline
+foundResult (refused why) = outlineResult (numberOf why) (amountOf why) 0 noOutline
+
+-- of a step, as of a message
+abbrev pub stepResult : Stepped → List ℕ
+stepResult s = foundResult (answerOf (foundOf (s .found)))
 
 -- ---- what the functions are asked
 

@@ -6,23 +6,31 @@ use avps::Filled;
 use diameter::Decoded;
 use header::Header;
 use header::Parsed;
+use reader::Found;
+use record::outline::Outline;
 use refusal::Refusal;
 use writer::Fields;
 use writer::Written;
 ghost use mathlib.Core.Path.{_≡_};
 ghost use Rattle.rfc3629.specs.Utf8.{wellFormed};
 ghost use Rattle.rfc6733.specs.Decoder.{headerAlone};
+ghost use Rattle.rfc6733.specs.Search.{sought};
 ghost use Rattle.rfc6733.specs.Signed.{unixSeconds};
 ghost use Rattle.header.specs.Parsed as header;
 ghost use Rattle.header.specs.Parsed.{headerAs};
 ghost use Rattle.avps.specs.Answers as avps;
 ghost use Rattle.avps.specs.Answers.{countsAs};
 ghost use Rattle.diameter.specs.Answers.{answerOf};
+ghost use Rattle.reader.specs.Reading as reader;
+ghost use Rattle.reader.specs.Reading.{stepAt};
 ghost use Rattle.writer.specs.Answers as writer;
-ghost use Rattle.tandrekily.specs.Results.{readingOf, result, refusal, messageResult, avpResult, writtenResult, messageAsked, avpAsked, writeResult, messageStore, avpStore, writeOutput};
+ghost use Rattle.tandrekily.specs.Results.{readingOf, result, refusal, messageResult, avpResult, writtenResult, outlineResult, foundResult, stepResult, messageAsked, avpAsked, writeResult, messageStore, avpStore, writeOutput};
 
 /// How many numbers a result has. include/tandrekily.h names them.
 pub const RESULT: usize = 13;
+
+/// How many numbers an outline's result has.
+pub const OUTLINE: usize = 10;
 
 const NO_COUNTS: Counts = Counts {
     errors: 0,
@@ -39,6 +47,16 @@ const NO_HEADER: Header = Header {
     app_id: 0,
     hop_id: 0,
     end_id: 0,
+};
+
+const NO_OUTLINE: Outline = Outline {
+    code: 0,
+    flags: 0,
+    length: 0,
+    vendor: 0,
+    place: 0,
+    padding: 0,
+    pads: 0,
 };
 
 fn reading_of(rfc: bool) -> Reading
@@ -134,6 +152,33 @@ fn of_written(w: Written) -> [u64; RESULT]
     }
 }
 
+fn lay_outline(number: u64, amount: usize, found: u64, o: Outline) -> [u64; OUTLINE]
+    ensures { λ r. ⌜ r ≡ outlineResult number amount found o ⌝ }
+{
+    [
+        number,
+        amount as u64,
+        found,
+        o.code as u64,
+        o.flags as u64,
+        o.length as u64,
+        o.vendor as u64,
+        o.place as u64,
+        o.padding as u64,
+        o.pads as u64,
+    ]
+}
+
+fn of_found(f: Found) -> [u64; OUTLINE]
+    ensures { λ r. ⌜ r ≡ foundResult (reader.answerOf f) ⌝ }
+{
+    match f {
+        Found::At(o) => lay_outline(0, 0, 1, o),
+        Found::None => lay_outline(0, 0, 0, NO_OUTLINE),
+        Found::Refused(why) => lay_outline(why.number() as u64, why.amount(), 0, NO_OUTLINE),
+    }
+}
+
 /// Decodes the message at the front of `input` into records in `store`.
 #[no_mangle]
 pub extern "C" fn tandrekily_message(
@@ -170,6 +215,30 @@ pub extern "C" fn tandrekily_avp(
     ensures store { λ _. ⌜ now (store .exit) ≡ avpStore rfc limit (now (store .entry)) (now (input .entry)) ⌝ }
 {
     *result = of_avp(diameter::parse_avp(reading_of(rfc), limit, input, store));
+}
+
+/// The first AVP with this code at the top level of the message at the front of `input`.
+#[no_mangle]
+pub extern "C" fn tandrekily_find(input: &[u8], code: u32, result: &mut [u64; OUTLINE])
+    ensures { λ _. ⌜ now (result .exit) ≡ foundResult (sought code (now (input .entry))) ⌝ }
+{
+    *result = of_found(reader::find(input, code));
+}
+
+/// The AVP at `place` of a message, and the place past it.
+#[no_mangle]
+pub extern "C" fn tandrekily_next(
+    message: &[u8],
+    place: usize,
+    result: &mut [u64; OUTLINE],
+) -> usize
+    ensures place { λ r. ⌜ r ≡ stepAt (now (message .entry)) place .place ⌝ }
+    ensures result { λ _. ⌜ now (result .exit) ≡ stepResult (stepAt (now (message .entry)) place) ⌝ }
+{
+    let s = reader::step_at(message, place);
+    let found = s.found;
+    *result = of_found(found.answer());
+    s.place
 }
 
 /// Writes the message of a table of records, whose data are in `pool`, to the front of `out`.

@@ -3,7 +3,6 @@ use mathlib.Core.Path.{sym, _∙_}
 use native.Mathlib.Omega.{arith}
 use denote.Ref.{now}
 use borrow.Author.Needs.{needs}
-use Rattle.octets.proofs.Numbers.{read-at}
 use Rattle.rfc6733.specs.Avp.{flags}
 use Rattle.rfc6733.proofs.Complete.{head}
 use Rattle.front.proofs.Fields.{Vendored, with-vendor, without-vendor}
@@ -19,10 +18,6 @@ vendor-id-spec =
     (tie.spec
     (λ c. omega (arith, head (flags (now (c .before .before .args .s)))))
     (λ c κs. search needs)
-    (λ c. omega (arith, vendor-there (c .before)))
-    (λ c. omega (arith, vendor-there (c .before .before)))
-    (λ c. omega (arith, vendor-there (c .before .before .before)))
-    (λ c. omega (arith, vendor-there (c .before .before .before .before)))
-    (λ c κs. search needs)
-    (λ c. read-at 4 _ 8 _ (c .be-u32 .ensures) ∙ sym (vendor-there (c .before .before .before .before .before) .vendor-is))
+    (λ c κs. omega (arith, vendor-there c))
+    (λ c. c .be-u32 .ensures ∙ sym (vendor-there (c .before) .vendor-is))
     (λ c. sym (without-vendor _ (sym (c .before .vendor-specific-flag .ensures) ∙ c .if1 .left))))

@@ -1,4 +1,4 @@
--- Calls of the functions that may change what is lent, with their parameters by name and in the source's order. Each is the contract of
+-- Calls of the functions that may change what is lent and of those that the demands name, with their parameters by name and in the source's order. Each is the contract of
 -- the function as the check reads it from the source (`Post`), at its arguments, its answer, and what it may change as it leaves it.
 use Prim.Native.Nat.{ℕ}
 use mathlib.Core.Bool.{Bool}
@@ -15,12 +15,16 @@ use Rattle.diameter.specs.declared.Decoded.{Decoded}
 use Rattle.diameter.proofs.parse.Reads as parse
 use Rattle.diameter.proofs.parse_avp.Reads as parse-avp
 use Rattle.lines.proofs.dump.Reads as dump
+use Rattle.reader.specs.declared.Found.{Found}
+use Rattle.reader.proofs.find.Reads as find
 use Rattle.writer.specs.declared.Fields.{Fields}
 use Rattle.writer.specs.declared.Written.{Written}
 use Rattle.writer.proofs.write.Reads as write
 use Rattle.tandrekily.proofs.tandrekily_message.Reads as tandrekily-message
 use Rattle.tandrekily.proofs.tandrekily_header.Reads as tandrekily-header
 use Rattle.tandrekily.proofs.tandrekily_avp.Reads as tandrekily-avp
+use Rattle.tandrekily.proofs.tandrekily_find.Reads as tandrekily-find
+use Rattle.tandrekily.proofs.tandrekily_next.Reads as tandrekily-next
 use Rattle.tandrekily.proofs.tandrekily_write.Reads as tandrekily-write
 
 -- a reference to a slice of numbers; `now` is what it holds
@@ -40,6 +44,9 @@ Parse κs reading limit input store r store′ = parse.Post κs (reading, (limit
 abbrev pub ParseAvp : Lfts 2 → Reading → ℕ → Slice → Slice → Filled → Slice → Type 0
 ParseAvp κs reading limit input store r store′ = parse-avp.Post κs (reading, (limit, (input, (store, tt)))) r (reading, (limit, (input, (store′, tt))))
 
+abbrev pub Find : Lfts 1 → Slice → ℕ → Found → Type 0
+Find κs input code r = find.Post κs (input, (code, tt)) r (input, (code, tt))
+
 abbrev pub Dump : Lfts 2 → Slice → Slice → ℕ → Slice → Type 0
 Dump κs input out r out′ = dump.Post κs (input, (out, tt)) r (input, (out′, tt))
 
@@ -56,6 +63,13 @@ TandrekilyHeader κs input result result′ = tandrekily-header.Post κs (input,
 abbrev pub TandrekilyAvp : Lfts 3 → Bool → ℕ → Slice → Slice → Slice → Slice → Slice → Type 0
 TandrekilyAvp κs rfc limit input store result store′ result′ =
     tandrekily-avp.Post κs (rfc, (limit, (input, (store, (result, tt))))) tt (rfc, (limit, (input, (store′, (result′, tt)))))
+
+abbrev pub TandrekilyFind : Lfts 2 → Slice → ℕ → Slice → Slice → Type 0
+TandrekilyFind κs input code result result′ = tandrekily-find.Post κs (input, (code, (result, tt))) tt (input, (code, (result′, tt)))
+
+abbrev pub TandrekilyNext : Lfts 2 → Slice → ℕ → Slice → ℕ → Slice → Type 0
+TandrekilyNext κs message place result r result′ =
+    tandrekily-next.Post κs (message, (place, (result, tt))) r (message, (place, (result′, tt)))
 
 abbrev pub TandrekilyWrite : Lfts 4 → ℕ → ℕ → ℕ → ℕ → ℕ → Slice → Slice → Slice → Slice → Slice → Slice → Type 0
 TandrekilyWrite κs flags code appId hopId endId table pool out result out′ result′ =

@@ -44,7 +44,7 @@ pub +read-avp+read-run+read-value-spec : {M : Type 1} → statement M
     (λ c. omega (arith, avp-opened t (avp-from-pads t c)))
     (λ c. omega (arith, avp-opened t (avp-from-pads t c)))
     (λ c. search needs)
-    (λ c κs. omega (arith, avp-opened t (avp-from-pads t (c .before))))
+    (λ c κs. tt)
     (λ c κs. tt)
     (λ c κs. tt)
     (of-avp.cast-t27 t)

@@ -9,7 +9,7 @@ use Rattle.avps.proofs.OwnRecord.{Opened, opened, room-for-own, level-f
 use Rattle.avp.proofs.AVP.header_size.Reads as header-size
 use Rattle.flags.proofs.join.Reads as join-flags
 use Rattle.record.proofs.Record.put.Reads as put
-use Rattle.avps.proofs.fill.pads.Reads as pads
+use Rattle.front.proofs.pads.Reads as pads
 use Rattle.avps.proofs.fill.own_errors.Reads as own-errors
 use Rattle.avps.proofs.fill.read_avp.Reads as avp-reads
 use Rattle.avps.proofs.fill.read_value.Reads as value-reads

@@ -8,8 +8,8 @@ use denote.Ref.{now}
 use borrow.Author.Needs.{needs}
 use Rattle.octets.specs.Octets.{be}
 use Rattle.octets.proofs.Numbers.{read-at}
-use Rattle.avps.proofs.fill.pads.Statement.{statement}
-use Rattle.avps.proofs.fill.pads.Tie as tie
+use Rattle.front.proofs.pads.Statement.{statement}
+use Rattle.front.proofs.pads.Tie as tie
 
 no-padding : (p : List ℕ) → length p ≡ 0 → 0 ≡ be 3 p 0
 unfolding be

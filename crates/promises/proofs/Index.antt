@@ -1,0 +1,111 @@
+-- Request E1, of the two functions themselves: an index by `reader::find` and a full decode by `diameter::parse` can't disagree. What `parse`
+-- accepted, `find` answers from the table that was left: the first record of depth 1 with the code, or none where there is none. Of what
+-- `parse` refused as NotTiled it finds the first such AVP before the failing place. What `find` refuses, `parse` refuses in the same
+-- words. Between the contracts stand the laws of rfc6733/proofs/Sought.
+use Prim.Native.Nat.{ℕ, _*_, _≤_}
+use mathlib.Core.Path.{_≡_, refl, sym, ap, _∙_}
+use mathlib.Core.Bool.{true}
+use mathlib.Core.Option.{Option, none, some}
+use mathlib.Core.Logic.{inl, inr}
+use mathlib.Core.List.{List, [], _∷_, map}
+use lib.ListN.{take}
+use lib.Dec.{eqb}
+use borrow.Author.Tests.{le-leb}
+use contract.Lifetimes.{Lfts}
+use denote.Ref.{now}
+use Rattle.octets.specs.Octets.{Bytes}
+use Rattle.octets.specs.Run.{tree}
+use Rattle.refusal.specs.Answer.{Refusal, accepted}
+use Rattle.refusal.specs.declared.Refusal.the-variants.{NotTiled}
+use Rattle.refusal.proofs.Tests.{decide}
+use Rattle.record.specs.Record.{Record, recordSize}
+use Rattle.record.specs.Outline.{Outline, outlineOf}
+use Rattle.record.specs.Table.{bare, tableOf, ofDepth}
+use Rattle.record.specs.Store.{stored}
+use Rattle.rfc6733.specs.Header.{headerSize}
+use Rattle.rfc6733.specs.Records.{unentered}
+use Rattle.rfc6733.specs.Decoder.{allowed, messageBody, messageRecords}
+use Rattle.rfc6733.specs.Search.{outlines, firstWith}
+use Rattle.rfc6733.proofs.Sought.{sought-accepted, beforeFailing, sought-failing, sought-refused}
+use Rattle.round_trip.proofs.Tables.{laid-read}
+use Rattle.round_trip.proofs.RoundTrip.{records-fit}
+use Rattle.attribute.specs.declared.Reading.{Reading}
+use Rattle.attribute.specs.Attributes.{dictionary}
+use Rattle.diameter.specs.declared.Message.{Message}
+use Rattle.diameter.specs.declared.Decoded.{Decoded}
+use Rattle.diameter.specs.declared.Decoded.the-variants as decoder
+use Rattle.diameter.specs.Answers.{answerOf, messageAs}
+use Rattle.diameter.proofs.AnswerOf.{answer-of-injective}
+use Rattle.reader.specs.declared.Found.{Found}
+use Rattle.reader.specs.declared.Found.the-variants.{At, None, Refused}
+use Rattle.reader.specs.Reading as reader
+use Rattle.reader.proofs.AnswerOf.{outcome-back, outcome-is-back}
+use Rattle.promises.proofs.OneOutcome.Calls.{Slice, Parse, Find}
+use Rattle.promises.proofs.RoundTrip.{lawful, Left, left}
+
+-- what stands first in a table
+abbrev pub shown : Option Outline → Found
+shown (some o) = At o
+shown none = None
+
+abbrev pub firstIn : ℕ → List Record → Found
+firstIn code table = shown (firstWith code (map outlineOf (ofDepth 1 table)))
+
+-- ---- the writer's view of a record has the same outline
+
+bare-outlines : (d : ℕ) (rs : List Record) → map outlineOf (ofDepth d (map bare rs)) ≡ map outlineOf (ofDepth d rs)
+unfolding bare
+bare-outlines d [] = refl
+bare-outlines d (r ∷ rs) =
+    elim (decide (eqb (r .depth) d)) [ inl e ↦ rw (e, bare-outlines d rs) | inr e ↦ rw (e, bare-outlines d rs) ]
+
+shown-back : (x : Option Outline) → outcome-back (accepted x) ≡ shown x
+shown-back none = refl
+shown-back (some o) = refl
+
+-- `parse` accepted m, whose records stand at the front of store′; `find` answered r of the same bytes. `Bytes` is asked as in RoundTrip
+pub found-in-the-table : (κs : Lfts 2) (reading : Reading) (limit : ℕ) (input store : Slice) (m : Message) (store′ : Slice)
+    (λs : Lfts 1) (code : ℕ) (r : Found)
+    → Parse κs reading limit input store (decoder.Accepted m) store′ → Find λs input code r → Bytes (now input)
+    → r ≡ firstIn code (tableOf (take (m .records * recordSize) (now store′)))
+unfolding answerOf stored
+found-in-the-table κs reading limit input store m store′ λs code r p q bytes =
+    let D = dictionary reading in
+    let s = now input in
+    let e = sym (p .0) in
+    let l = left reading _ _ s m (now store′) _ e (p .1) in
+    let fits = records-fit D (lawful reading) _ _ s (messageAs m) bytes e in
+    let found = firstWith code (map outlineOf (ofDepth 1 (messageRecords D s))) in
+    sym (outcome-is-back r) ∙ ap outcome-back (q ∙ sought-accepted code s D _ _ (messageAs m) e) ∙ shown-back found
+    ∙ rw (l .records-are, laid-read (messageRecords D s) fits, bare-outlines 1 (messageRecords D s))
+
+-- what stands before the failing place
+abbrev pub shownFailing : Option Outline → Found
+shownFailing (some o) = At o
+shownFailing none = Refused NotTiled
+
+failing-back : (x : Option Outline) → outcome-back (beforeFailing x) ≡ shownFailing x
+failing-back none = refl
+failing-back (some o) = refl
+
+-- `parse` refused the bytes since they do not tile; `find` answered r
+pub found-before-the-failing-place : (κs : Lfts 2) (reading : Reading) (limit : ℕ) (input store store′ : Slice) (λs : Lfts 1) (code : ℕ) (r : Found)
+    → Parse κs reading limit input store (decoder.Refused NotTiled) store′ → Find λs input code r
+    → r ≡ shownFailing (firstWith code (outlines headerSize (tree unentered (messageBody (now input)))))
+unfolding answerOf
+found-before-the-failing-place κs reading limit input store store′ λs code r p q =
+    let s = now input in
+    let found = firstWith code (outlines headerSize (tree unentered (messageBody s))) in
+    sym (outcome-is-back r) ∙ ap outcome-back (q ∙ sought-failing code s (dictionary reading) limit _ (sym (p .0))) ∙ failing-back found
+
+-- `find` refused the bytes, and `parse` was asked with a limit that is allowed
+pub refused-by-both : (κs : Lfts 2) (reading : Reading) (limit : ℕ) (input store : Slice) (r : Decoded) (store′ : Slice)
+    (λs : Lfts 1) (code : ℕ) (why : Refusal)
+    → Parse κs reading limit input store r store′ → Find λs input code (Refused why) → 1 ≤ limit → limit ≤ 64
+    → r ≡ decoder.Refused why
+unfolding answerOf reader.answerOf allowed
+refused-by-both κs reading limit input store r store′ λs code why p q low high =
+    answer-of-injective r (decoder.Refused why) (p .0 ∙ sought-refused code (now input) why (sym q) (dictionary reading) limit _ (within low high))
+  where
+    within : 1 ≤ limit → limit ≤ 64 → allowed limit ≡ true
+    within a b = rw (le-leb 1 limit a, le-leb limit 64 b)

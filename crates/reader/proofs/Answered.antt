@@ -1,0 +1,46 @@
+-- What a fresh reader answers is what the definition answers of the message: past its header, the payload is what is left from byte 20 on.
+use Prim.Native.Nat.{ℕ, _≤_}
+use mathlib.Core.Path.{_≡_, refl, sym, ap, _∙_}
+use mathlib.Core.Bool.{true, not, _&&_}
+use mathlib.Core.Option.{Option, none, some}
+use mathlib.Core.Logic.{inl, inr}
+use mathlib.Core.List.{List, [], _∷_}
+use native.Mathlib.Omega.{arith}
+use lib.ListN.{length, take, drop}
+use Rattle.octets.specs.Run.{Tree, tree, tiles}
+use Rattle.octets.proofs.Lists.{behind}
+use Rattle.refusal.specs.Answer.{Refusal, refused, refuse, answer}
+use Rattle.refusal.specs.declared.Refusal.the-variants.{NotTiled}
+use Rattle.refusal.proofs.Answers.{answer-past, answer-first}
+use Rattle.refusal.proofs.Tests.{decide}
+use Rattle.record.specs.Outline.{Outline}
+use Rattle.rfc6733.specs.Header.{headerRefusals, headerSize}
+use Rattle.rfc6733.specs.Records.{unentered}
+use Rattle.rfc6733.specs.Decoder.{headerAlone, messageBody}
+use Rattle.rfc6733.specs.Search.{outlines, firstWith, isNone, sought}
+use Rattle.header.specs.declared.Header.{Header}
+use Rattle.header.proofs.Bodies.{Body}
+use Rattle.reader.specs.Reading.{moved, findAt, foundOf, answerOf}
+
+-- what is found of a payload, told of its message
+told : (at : ℕ) (t : Tree) (x : Option Outline)
+    → answerOf (foundOf (moved at t x .found)) ≡ answer (refuse (isNone x && not (tiles t)) NotTiled ∷ []) x
+unfolding answerOf foundOf
+told at t (some o) = refl
+told at t none = elim (decide (tiles t)) [ inl e ↦ rw e | inr e ↦ rw e ]
+
+module _ (code : ℕ) (s : List ℕ) where
+  pub asked : (h : Header) (own : ℕ) → Body h own s → answerOf (foundOf (findAt code (take (h .length) s) headerSize .found)) ≡ sought code s
+  unfolding findAt sought
+  asked h own b =
+      let payload : drop 20 (take (h .length) s) ≡ messageBody s =
+      behind 20 (h .length) s (omega (arith, b .length-is, b .facts .twenty)) (omega (arith, b .length-is, b .facts .there)) ∙ b .body-is
+      in
+      let t = tree unentered (messageBody s) in
+      let found = firstWith code (outlines 20 t) in
+      rw (payload, answer-past (headerRefusals s) _ found (b .passes-all)) (told 20 t found)
+
+  -- the header's refusal is the answer
+  pub header-refused : (why : Refusal) → refused why ≡ headerAlone s → refused why ≡ sought code s
+  unfolding headerAlone sought
+  header-refused why e = sym (answer-first (headerRefusals s) _ _ _ why (sym e))

@@ -1,0 +1,5 @@
+mod Over
+mod Steps
+mod Held
+mod Answered
+pub mod AnswerOf
