@@ -1,4 +1,5 @@
-"""Makes cases of the RFC reading from a seed, a line each as in cases.txt: python3 oracle/made.py SEED COUNT
+"""Makes cases from a seed, a line each as in cases.txt: python3 oracle/made.py SEED COUNT, of the RFC reading, or, with `search` behind it, searches and
+steps, which know no reading.
 
 Messages are laid out as RFC 6733 sections 3 and 4 say, with the codes of docs/FORMAT.md and a few others, text at the edges of RFC 3629's ranges, and
 Address data of several families. Some are then damaged: a length, a byte, the end.
@@ -59,13 +60,30 @@ def damaged(r, wire):
     return wire + (b"\x01" if r.random() < 0.05 else b"")
 
 
+def read(r):
+    """A message or one AVP to be decoded."""
+    function = r.choice(("message", "message", "message", "avp"))
+    case = damaged(r, message(r) if function == "message" else avp(r, 1))
+    limit = r.choice((64, 64, 64, 7, 3, 2, 1, 0, 65))
+    return function, "rfc", limit, r.randrange(13), case.hex() or "-"
+
+
+def search(r):
+    """A code, most often one that stands somewhere in the message, and the message; or steps over it."""
+    wire = damaged(r, message(r))
+    if r.random() < 0.3:
+        return "steps", "sawp", 0, 0, wire.hex() or "-"
+    words = [wire[at : at + 4] for at in range(20, len(wire) - 3, 4)]
+    codes = [word for word in words if word[:2] == b"\0\0"] if r.random() < 0.9 else []
+    code = r.choice(codes or [r.choice(CODES).to_bytes(4, "big")])
+    return "find", "sawp", 0, 0, (code + wire).hex()
+
+
 def main():
     r = random.Random(int(sys.argv[1]))
+    make = search if sys.argv[3:] == ["search"] else read
     for _ in range(int(sys.argv[2])):
-        function = r.choice(("message", "message", "message", "avp"))
-        case = damaged(r, message(r) if function == "message" else avp(r, 1))
-        limit = r.choice((64, 64, 64, 7, 3, 2, 1, 0, 65))
-        print(function, "rfc", limit, r.randrange(13), case.hex() or "-")
+        print(*make(r))
 
 
 if __name__ == "__main__":

@@ -1,17 +1,19 @@
 """A model of the format (docs/FORMAT.md), written from its text and from RFC 6733 and RFC 3629, not from our code.
 
-It answers a case as docs/FORMAT.md says: message, header alone or one AVP alone, in either reading, or a table to be written. It is slow and plain on
-purpose. `oracle/run replay` makes with it frames that crates/replay reads and answers that it must write:
+It answers a case as docs/FORMAT.md says: message, header alone or one AVP alone, in either reading, a table to be written, or a search. It is slow and
+plain on purpose: a search decodes the whole message and looks for the record. `oracle/run replay` makes with it frames that crates/replay reads and answers that it must write:
 
     python3 oracle/model.py frames < oracle/cases.txt
     python3 oracle/model.py answers < oracle/cases.txt
 
-A frame: function (0 message, 1 header alone, 2 one AVP, 3 a table to be written), reading (0 sawp, 1 RFC) and depth limit in a byte each, room in
+A frame: function (0 message, 1 header alone, 2 one AVP, 3 a table to be written, 4 a search, 5 steps), reading (0 sawp, 1 RFC) and depth limit in a byte each, room in
 records in 2 bytes, length in 4, and the bytes. An answer: the number in a byte and the amount in 4; where the number is 0, the
 header's 20 bytes (not for one AVP), the flags in a byte, the number of records in 2, headers tried in 4, the length in 4; and always the
 whole store afterwards, which has 5 bytes more than its records take and was lent full of the byte A5. For a table the bytes are
 flags in 1, command code, application, hop-by-hop, end-to-end and the table's length in 4 each, the table and the bytes that its places point
-into; the store is the output, and an acceptance answers the total in 4 bytes.
+into; the store is the output, and an acceptance answers the total in 4 bytes. For a search the bytes are a code in 4 and a message; an acceptance
+answers 1 in a byte and bytes 0..15 and 19..22 of the record, or 0. For steps they are a message's own; the answer is, for each AVP of the top level, 1 in a
+byte, those 20 bytes and the place past it in 4, and then 0, or 2 at the failing place, and that place in 4. Neither changes the store.
 """
 import re
 import sys
@@ -194,6 +196,29 @@ def avp_alone(reading, limit, room, data):
     return flags, records, tried, size
 
 
+def top_level(reading, data):
+    """The outline and the place past it of each AVP at the top level, from byte 20 on and up to the failing place; and whether there is none."""
+    tiles, records, _, _, _ = run(reading, data[20:], 20, 1)
+    tops = [r[0:16] + r[19:23] for r in records if r[16] == 1]
+    return tiles, [(o, be(o[12:16]) + be(o[5:8]) - (12 if o[4] & 0x80 else 8) + o[16]) for o in tops]
+
+
+def search(reading, code, data):
+    """The outline of the first AVP with the code, or none."""
+    length, _ = header(data)
+    tiles, tops = top_level(reading, data[:length])
+    found = [outline for outline, _ in tops if outline[0:4] == code]
+    if not found and not tiles:
+        raise Refused(NOT_TILED)
+    return b"\1" + found[0] if found else b"\0"
+
+
+def steps(reading, data):
+    tiles, tops = top_level(reading, data)
+    last = tops[-1][1] if tops else 20
+    return b"".join(b"\1" + outline + past.to_bytes(4, "big") for outline, past in tops) + bytes([0 if tiles else 2]) + last.to_bytes(4, "big")
+
+
 def row(r):
     """A record as the writer takes it."""
     return {
@@ -253,7 +278,7 @@ def written(data, room):
 LENT, SPARE = 0xA5, 5
 # (00)*3 in a case is 000000
 REPEATED = re.compile(r"\(([0-9a-f]+)\)\*([0-9]+),?")
-FUNCTIONS, READINGS = ("message", "header", "avp", "table"), ("sawp", "rfc")
+FUNCTIONS, READINGS = ("message", "header", "avp", "table", "find", "steps"), ("sawp", "rfc")
 
 
 def frame(function, reading, limit, room, data):
@@ -267,6 +292,10 @@ def answer(function, reading, limit, room, data):
         if function == "table":
             out = written(data, size)
             return bytes(5) + len(out).to_bytes(4, "big") + out.ljust(size, bytes([LENT]))
+        if function == "find":
+            return bytes(5) + search(reading, data[:4], data[4:]) + bytes([LENT]) * size
+        if function == "steps":
+            return steps(reading, data) + bytes([LENT]) * size
         if function == "header":
             flags, records, tried, length = header_alone(data)
         elif function == "avp":

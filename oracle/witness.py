@@ -13,6 +13,7 @@ import model
 
 CODES, STORE, LENT = 513, 37, 0xA5
 P8 = bytes.fromhex("01000024" + "00" * 16 + "0000010c0000000d000007d100000000")
+BROKEN = bytes.fromhex("01000025" + "00" * 16 + "0000010c0000000d000007d10000000000")
 RECORD = bytes.fromhex("0000010c0000000d000000000000001c" + "0104020300000000" + "00000000000007d1")
 # What each refusal returns, by its number from 1 on, where it was made with 12.
 AMOUNTS = [12, 0, 0, 0, 0, 12, 0, 0, 12, 0, 12]
@@ -104,6 +105,25 @@ def answered(ask, size, head):
     return [0, 0, errors, records, tried, length] + fields, memory
 
 
+def outlined(ask):
+    """The ten numbers of an outline."""
+    try:
+        found = ask()
+    except model.Refused as r:
+        return [r.number, r.amount] + [0] * 8
+    fields = [model.be(found[a:b]) for a, b in ((1, 5), (5, 6), (6, 9), (9, 13), (13, 17), (17, 18), (18, 21))]
+    return [0, 0, found[0]] + fields
+
+
+def stepped(answer, place):
+    """The first of some steps, over a message of which the bytes from the place on were put behind a header."""
+    if answer[0] == 2:
+        raise model.Refused(model.NOT_TILED)
+    if answer[0] == 0:
+        return b"\0"
+    return answer[:13] + (model.be(answer[13:17]) + place - 20).to_bytes(4, "big") + answer[17:21]
+
+
 def library():
     def read(ask, reading, limit, data):
         errors, records, tried, length = ask(("sawp", "rfc")[reading], limit, STORE // 32, data)
@@ -117,6 +137,13 @@ def library():
     for rfc, limit in ((0, 64), (1, 65)):
         show("one-avp", (rfc, limit), answered(lambda: read(model.avp_alone, rfc, limit, P8[20:]), STORE, None))
     line("header-alone", *answered(lambda: (model.header_alone(P8)[0], 0, 0, 20, b""), 0, P8)[0])
+    for code in (268, 263):
+        found = (outlined(lambda: model.search("sawp", code.to_bytes(4, "big"), data)) for data in (P8, BROKEN))
+        line("find", code, *(number for outline in found for number in outline))
+    for place in (20, 21, 36):
+        answer = model.steps("sawp", bytes(20) + P8[place:])
+        past = place if answer[0] != 1 else place - 20 + model.be(answer[21:25])
+        line("next", place, past, *outlined(lambda: stepped(answer, place)))
     ids = b"".join(n.to_bytes(4, "big") for n in (257, 1, 2, 3, len(RECORD)))
     for size in (40, 35):
         def write():

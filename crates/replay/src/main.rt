@@ -1,11 +1,15 @@
 // Answers framed cases from standard input on standard output: the bridge to the oracle and, with the frames kept beside it, a
 // test of the decoders. oracle/README.md has the frame and the answer. It stops at the end of the input or at a frame that it can't hold.
 use attribute::Reading;
+use avp::AVP;
 use avps::Filled;
 use diameter::Decoded;
 use header::Header;
 use header::Parsed;
+use reader::Found;
+use reader::Step;
 use record::Record;
+use record::outline::Outline;
 use writer::Fields;
 use writer::Written;
 ghost use Prim.Native.Nat.{_≤_};
@@ -95,6 +99,73 @@ fn one_avp(reading: Reading, limit: usize, input: &[u8], store: &mut [u8]) {
     }
 }
 
+fn write_outline(o: Outline) {
+    write_u32(o.code);
+    write_u8(o.flags);
+    write_u24(o.length);
+    write_u32(o.vendor);
+    write_count(o.place);
+    write_u8(o.padding);
+    write_u24(o.pads);
+}
+
+// The code stands in the input before the message.
+fn find(input: &[u8]) {
+    if input.len() < AVP::CODE_SIZE {
+        return;
+    }
+    let code = octets::be_u32(input[0], input[1], input[2], input[3]);
+    match reader::find(&input[AVP::CODE_SIZE..], code) {
+        Found::At(o) => {
+            write_refusal(0, 0);
+            write_u8(1);
+            write_outline(o);
+        }
+        Found::None => {
+            write_refusal(0, 0);
+            write_u8(0);
+        }
+        Found::Refused(why) => write_refusal(why.number(), why.amount()),
+    }
+}
+
+// What a step found; false where it is no AVP.
+fn write_step(s: Step) -> bool {
+    match s {
+        Step::At(o) => {
+            write_u8(1);
+            write_outline(o);
+            true
+        }
+        Step::Broken => {
+            write_u8(2);
+            false
+        }
+        Step::End => {
+            write_u8(0);
+            false
+        }
+    }
+}
+
+// Each step over the AVPs of a message, up to the end or the failing place, and where the reader then stands.
+fn steps(message: &[u8]) {
+    let mut place = Header::SIZE;
+    let mut left: usize = BUFFER_SIZE;
+    let mut more = true;
+    while more {
+        if left == 0 {
+            return;
+        }
+        left -= 1;
+        let s = reader::step_at(message, place);
+        let found = s.found;
+        more = write_step(found);
+        place = s.place;
+        write_count(place);
+    }
+}
+
 // The fields, the length of the table, the table and the pool stand in the input one after the other.
 const TABLE: usize = 21;
 
@@ -153,6 +224,8 @@ fn answer(frame: [u8; FRAME_SIZE], input: &[u8], store: &mut [u8]) {
         0 => message(reading, limit, input, store),
         1 => header_alone(input),
         2 => one_avp(reading, limit, input, store),
+        4 => find(input),
+        5 => steps(input),
         _ => table(input, store),
     }
 }

@@ -1,10 +1,15 @@
 // The library's functions, on the message P8 (docs/FORMAT.md, 10): a Result-Code with a fifth data byte.
 use crate::print;
 use record::Record;
+use tandrekily::OUTLINE;
 use tandrekily::RESULT;
 
 const P8: [u8; 36] =
     *b"\x01\0\0\x24\0\0\0\0\0\0\0\0\0\0\0\0\0\0\0\0\0\0\x01\x0C\0\0\0\x0D\0\0\x07\xD1\0\0\0\0";
+
+// The same with a byte behind its AVP.
+const BROKEN: [u8; 37] =
+    *b"\x01\0\0\x25\0\0\0\0\0\0\0\0\0\0\0\0\0\0\0\0\0\0\x01\x0C\0\0\0\x0D\0\0\x07\xD1\0\0\0\0\0";
 
 // Its record.
 const TABLE: [u8; Record::SIZE] =
@@ -57,6 +62,28 @@ fn header() {
     print::end();
 }
 
+// In the message, and in one that breaks off.
+fn find(code: u32) {
+    let mut outline = [0u64; OUTLINE];
+    tandrekily::tandrekily_find(&P8, code, &mut outline);
+    print::label(b"find");
+    print::number(code as u64);
+    print::outline(&outline);
+    tandrekily::tandrekily_find(&BROKEN, code, &mut outline);
+    print::outline(&outline);
+    print::end();
+}
+
+fn next(place: usize) {
+    let mut outline = [0u64; OUTLINE];
+    let past = tandrekily::tandrekily_next(&P8, place, &mut outline);
+    print::label(b"next");
+    print::number(place as u64);
+    print::number(past as u64);
+    print::outline(&outline);
+    print::end();
+}
+
 fn write(out: &mut [u8]) {
     let mut result = [0u64; RESULT];
     tandrekily::tandrekily_write(0x80, 257, 1, 2, 3, &TABLE, &P8, out, &mut result);
@@ -90,6 +117,11 @@ pub(super) fn lines() {
     avp(false, 64);
     avp(true, 65);
     header();
+    find(268);
+    find(263);
+    next(20);
+    next(21);
+    next(36);
     writes();
     texts();
 }

@@ -1,4 +1,5 @@
 // Lines on standard output: a label, then words and numbers, each after a space.
+use tandrekily::OUTLINE;
 use tandrekily::RESULT;
 
 const OUT: i32 = 1;
@@ -39,6 +40,20 @@ pub(super) fn result(all: &[u64; RESULT]) {
     for i in 0..RESULT {
         number(all[i]);
     }
+}
+
+// Its answer, whether an AVP is found, and that AVP's fields.
+pub(super) fn outline(all: &[u64; OUTLINE]) {
+    number(all[0]);
+    number(all[1]);
+    number(all[2]);
+    number(all[3]);
+    number(all[4]);
+    number(all[5]);
+    number(all[6]);
+    number(all[7]);
+    number(all[8]);
+    number(all[9]);
 }
 
 fn wide(x: u8) -> u64 {
