@@ -2,14 +2,14 @@
 //
 // What a caller passes:
 //   - With each pointer that has a length, so many bytes that may be read; those of `store` and `out` may be written too.
-//   - `result` points to TANDREKILY_RESULT numbers.
+//   - `result` points to TANDREKILY_RESULT numbers, and `outline` to TANDREKILY_OUTLINE.
 //   - No null pointer. Where a length is 0, any other pointer does, and nothing is read or written through it.
-//   - `store`, `out` and `result` share no byte with anything else that is passed.
-// Nothing else is asked: each function answers for any bytes and any numbers. Before a call the bytes of `store`, `out`
-// and `result` may be anything.
+//   - `store`, `out`, `result` and `outline` share no byte with anything else that is passed.
+// Nothing else is asked: each function answers for any bytes and any numbers. Before a call the bytes of `store`, `out`,
+// `result` and `outline` may be anything.
 //
 // What a caller gets:
-//   - `result` is written whole by every call, with zeros where nothing is returned.
+//   - `result` and `outline` are written whole by every call, with zeros where nothing is returned.
 //   - A refusal changes no byte of `store` or `out`.
 //   - Nothing is allocated or kept between calls, so calls may run in several threads at once.
 //   - A call takes less than 64 KiB of stack; bench/stack measures it at the deepest nesting.
@@ -137,6 +137,38 @@ void tandrekily_header(const uint8_t *input, size_t input_length, uint64_t resul
 //   refused, in this order: BAD_DEPTH, INCOMPLETE or BAD_LENGTH, TOO_DEEP, NO_RECORDS
 void tandrekily_avp(bool rfc, size_t limit, const uint8_t *input, size_t input_length, uint8_t *store, size_t store_length,
                     uint64_t result[TANDREKILY_RESULT]);
+
+// ---- one AVP of a message
+
+// The places in an outline: what is given of an AVP without a look at its data or into a group. They are the fields of its record.
+enum tandrekily_outline {
+    TANDREKILY_OUTLINE_NUMBER = 0,  // the answer's number
+    TANDREKILY_OUTLINE_AMOUNT = 1,  // what a refusal returns besides
+    TANDREKILY_OUTLINE_FOUND = 2,   // 1 if an AVP was found; if not, all after it are 0
+    TANDREKILY_OUTLINE_CODE = 3,
+    TANDREKILY_OUTLINE_FLAGS = 4,
+    TANDREKILY_OUTLINE_LENGTH = 5,  // the AVP's header and data, without padding
+    TANDREKILY_OUTLINE_VENDOR = 6,  // 0 without the vendor bit
+    TANDREKILY_OUTLINE_PLACE = 7,   // where the data start in the input
+    TANDREKILY_OUTLINE_PADDING = 8, // how many bytes of padding, 0..3
+    TANDREKILY_OUTLINE_PADS = 9,    // these bytes as a number of three, the unused ones 0
+    TANDREKILY_OUTLINE = 10         // how many numbers an outline has
+};
+
+// A message's header has so many bytes; its first AVP stands behind them.
+enum { TANDREKILY_HEADER = 20 };
+
+// Finds the first AVP with a code at the top level of the message at the front of `input`, as Session-Id by 263. It reads the headers
+// of the AVPs up to that one and enters no group. A vendor doesn't hide an AVP: look at the outline's.
+//   accepted: the outline, or not found
+//   refused: as `tandrekily_header` refuses; then NOT_TILED, if the AVPs break off and none before that place has the code
+void tandrekily_find(const uint8_t *input, size_t input_length, uint32_t code, uint64_t outline[TANDREKILY_OUTLINE]);
+
+// Steps over the AVP that stands at `place` of a message, whose bytes are `message`, its header's among them and no more than its
+// length. Starting with TANDREKILY_HEADER and then with what it returned, it goes over the top level of the message.
+//   accepted: the outline, and the place past the AVP is returned; or not found at the end, and `place` is returned
+//   refused: NOT_TILED where no AVP is complete, and `place` is returned
+size_t tandrekily_next(const uint8_t *message, size_t message_length, size_t place, uint64_t outline[TANDREKILY_OUTLINE]);
 
 // ---- writing
 

@@ -44,17 +44,21 @@ static bool is_hex(const char *hex, const uint8_t *at) {
 
 // ---- results
 
-// A result holds something before each call, so that a number left as it was is noticed.
-static void spoil(uint64_t *result) {
-    memset(result, LENT, TANDREKILY_RESULT * sizeof *result);
+// A result or an outline holds something before each call, so that a number left as it was is noticed.
+static void spoil(int count, uint64_t *numbers) {
+    memset(numbers, LENT, (size_t)count * sizeof *numbers);
+}
+
+static void check_numbers(const char *name, int count, const uint64_t *expected, const uint64_t *numbers) {
+    for (int i = 0; i < count; i++) {
+        if (numbers[i] == expected[i]) continue;
+        failures++;
+        printf("%s: number %d is %" PRIu64 " and not %" PRIu64 "\n", name, i, numbers[i], expected[i]);
+    }
 }
 
 static void check_result(const char *name, const uint64_t *expected, const uint64_t *result) {
-    for (int i = 0; i < TANDREKILY_RESULT; i++) {
-        if (result[i] == expected[i]) continue;
-        failures++;
-        printf("%s: number %d is %" PRIu64 " and not %" PRIu64 "\n", name, i, result[i], expected[i]);
-    }
+    check_numbers(name, TANDREKILY_RESULT, expected, result);
 }
 
 static void check_refusal(const char *name, uint64_t number, uint64_t amount, const uint64_t *result) {
@@ -119,7 +123,7 @@ static void refuses(decoder *decode, const struct refusal *r) {
     size_t length = bytes_of(r->input, input);
     for (int rfc = 0; rfc < 2; rfc++) {
         memset(store, LENT, sizeof store);
-        spoil(result);
+        spoil(TANDREKILY_RESULT, result);
         decode(rfc == 1, r->limit, input, length, store, r->room, result);
         check_refusal(r->name, r->number, r->amount, result);
         check(r->name, "the store was changed", all(LENT, store, sizeof store));
@@ -176,7 +180,7 @@ static void accepts(decoder *decode, const struct acceptance *a) {
     for (size_t i = 0; i < sizeof spare / sizeof *spare; i++) {
         size_t room = used + spare[i];
         memset(store, LENT, sizeof store);
-        spoil(result);
+        spoil(TANDREKILY_RESULT, result);
         decode(a->rfc, a->limit, input, length, store, room, result);
         check_result(a->name, a->result, result);
         check(a->name, "the records are others", is_hex(a->records, store));
@@ -200,7 +204,7 @@ static void header(const char *name, const char *hex, const uint64_t *expected) 
     uint8_t input[MOST];
     uint64_t result[TANDREKILY_RESULT];
     size_t length = bytes_of(hex, input);
-    spoil(result);
+    spoil(TANDREKILY_RESULT, result);
     tandrekily_header(input, length, result);
     check_result(name, expected, result);
 }
@@ -212,6 +216,158 @@ static void headers(void) {
     header("header: version 2", "02", (uint64_t[TANDREKILY_RESULT]){2, 0});
     header("header: length 19 of 8 bytes", "01000013 00000000", (uint64_t[TANDREKILY_RESULT]){1, 11});
     header("header: length 3", "01000003", (uint64_t[TANDREKILY_RESULT]){3, 0});
+}
+
+// ---- one AVP of a message
+
+#define SESSION "00000107 40 00000B 613B31 00"
+#define VENDORS "00000107 C0 00000F 000028AF 613B31 00"
+#define HOST "00000108 40 00000C 686F7374"
+#define HOLDING "00000117 00 000014" SESSION
+#define OCTETS "0000002C 9F 00000E 000028AF ABCD 1234"
+#define NO_HEAD "00000107 40 0000"
+#define NO_DATA "00000107 40 00000B 613B"
+#define NO_PADDING "00000107 40 00000B 613B31"
+#define TOO_SHORT "00000107 40 000007"
+#define NO_VENDOR "00000107 C0 000008 000028AF"
+
+struct search {
+    const char *name;
+    uint32_t code;
+    const char *input;
+    uint64_t outline[TANDREKILY_OUTLINE];
+};
+
+static const struct search searched[] = {
+    {"find: empty input", 263, "", {1, 1}},
+    {"find: version 2", 263, "02", {2}},
+    {"find: two bytes", 263, "0100", {1, 2}},
+    {"find: length 3", 263, "01000003", {3}},
+    {"find: length 19 of 8 bytes", 263, "01000013 00000000", {1, 11}},
+    {"find: length 19", 263, "01000013 00000000 00000000 00000000 00000000" SESSION, {3}},
+    {"find: it is there, and the message's last byte is not", 263, MESSAGE("2C") SESSION "00000108 40 00000C 686F73", {1, 1}},
+    {"find: no AVP", 263, MESSAGE("14"), {0}},
+    {"find: another code", 263, MESSAGE("20") HOST, {0}},
+    {"find: past the message", 263, MESSAGE("14") SESSION, {0}},
+    {"find: AVPs break off past the message", 263, MESSAGE("20") HOST NO_HEAD, {0}},
+    {"find: in a group only", 263, MESSAGE("28") HOLDING, {0}},
+    {"find: header cut off", 263, MESSAGE("1B") NO_HEAD, {4}},
+    {"find: data cut off", 263, MESSAGE("1E") NO_DATA, {4}},
+    {"find: padding cut off", 263, MESSAGE("1F") NO_PADDING, {4}},
+    {"find: padding past the message", 263, MESSAGE("1F") SESSION, {4}},
+    {"find: length 7", 263, MESSAGE("1C") TOO_SHORT, {4}},
+    {"find: vendor bit and length 8", 263, MESSAGE("20") NO_VENDOR, {4}},
+    {"find: a byte is left over", 263, MESSAGE("21") HOST "00", {4}},
+    {"find: after the failing place", 263, MESSAGE("28") "00000108 40 000007" SESSION, {4}},
+    {"find: before the failing place", 263, MESSAGE("28") SESSION "00000108 40 000007", {0, 0, 1, 263, 0x40, 11, 0, 28, 1, 0}},
+    {"find: no data, and reserved bits in the header", 263, "0100001C 0F000000 00000000 00000000 00000000 00000107 00 000008",
+     {0, 0, 1, 263, 0, 8, 0, 28, 0, 0}},
+    {"find: vendor bit and vendor 0", 263, MESSAGE("24") "00000107 80 00000F 00000000 613B31 00",
+     {0, 0, 1, 263, 0x80, 15, 0, 32, 1, 0}},
+    {"find: every flag and every bit of a vendor", 263, MESSAGE("24") "00000107 FF 00000F FFFFFFFF 613B31 00",
+     {0, 0, 1, 263, 0xFF, 15, 0xFFFFFFFF, 32, 1, 0}},
+    {"find: 1 byte of padding", 263, MESSAGE("20") "00000107 40 00000B 613B31 A1", {0, 0, 1, 263, 0x40, 11, 0, 28, 1, 0xA10000}},
+    {"find: 2 bytes of padding", 263, MESSAGE("20") "00000107 40 00000A 613B A1A2", {0, 0, 1, 263, 0x40, 10, 0, 28, 2, 0xA1A200}},
+    {"find: 3 bytes of padding", 263, MESSAGE("20") "00000107 40 000009 61 A1A2A3", {0, 0, 1, 263, 0x40, 9, 0, 28, 3, 0xA1A2A3}},
+    {"find: the first of two, a vendor's", 263, MESSAGE("30") VENDORS SESSION, {0, 0, 1, 263, 0xC0, 15, 0x28AF, 32, 1, 0}},
+    {"find: the first of two, no vendor's", 263, MESSAGE("30") SESSION VENDORS, {0, 0, 1, 263, 0x40, 11, 0, 28, 1, 0}},
+    {"find: after a group that has one, and one that does not tile", 263, MESSAGE("44") HOLDING FAILING VENDORS,
+     {0, 0, 1, 263, 0xC0, 15, 0x28AF, 64, 1, 0}},
+    {"find: the group itself", 279, MESSAGE("28") HOLDING, {0, 0, 1, 279, 0, 20, 0, 28, 0, 0}},
+    {"find: after codes of which three bytes are the same", 263,
+     MESSAGE("40") "01000107 00 000008 00010107 00 000008 00000007 00 000008 00000108 00 000008" SESSION,
+     {0, 0, 1, 263, 0x40, 11, 0, 60, 1, 0}},
+    {"find: code 0", 0, MESSAGE("28") SESSION "00000000 00 000008", {0, 0, 1, 0, 0, 8, 0, 40, 0, 0}},
+    {"find: the largest code", UINT32_MAX, MESSAGE("1C") "FFFFFFFF 00 000008", {0, 0, 1, UINT32_MAX, 0, 8, 0, 28, 0, 0}},
+};
+
+static void search(const char *name, const uint8_t *input, size_t length, uint32_t code, const uint64_t *expected) {
+    uint64_t outline[TANDREKILY_OUTLINE];
+    spoil(TANDREKILY_OUTLINE, outline);
+    tandrekily_find(input, length, code, outline);
+    check_numbers(name, TANDREKILY_OUTLINE, expected, outline);
+}
+
+static void searches(void) {
+    uint8_t input[MOST];
+    for (size_t i = 0; i < sizeof searched / sizeof *searched; i++) {
+        size_t length = bytes_of(searched[i].input, input);
+        search(searched[i].name, input, length, searched[i].code, searched[i].outline);
+    }
+}
+
+#define WALKED MESSAGE("4C") SESSION OCTETS HOLDING EMPTY_GROUP
+
+struct step {
+    const char *name;
+    size_t past;
+    uint64_t outline[TANDREKILY_OUTLINE];
+};
+
+// The AVPs of WALKED, each from the place that was returned before.
+static const struct step walked[] = {
+    {"next: the first", 32, {0, 0, 1, 263, 0x40, 11, 0, 28, 1, 0}},
+    {"next: vendor, reserved bits and padding", 48, {0, 0, 1, 44, 0x9F, 14, 0x28AF, 44, 2, 0x123400}},
+    {"next: a group is not entered", 68, {0, 0, 1, 279, 0, 20, 0, 56, 0, 0}},
+    {"next: the last, without data", 76, {0, 0, 1, 279, 0, 8, 0, 76, 0, 0}},
+    {"next: the end", 76, {0}},
+    {"next: the end again", 76, {0}},
+};
+
+struct stay {
+    const char *name, *message;
+    size_t place;
+    uint64_t number;
+};
+
+// No AVP is there, so the place is returned as it was given.
+static const struct stay stays[] = {
+    {"next: no bytes", "", 0, 0},
+    {"next: no AVP", MESSAGE("14"), 20, 0},
+    {"next: a byte past the end", MESSAGE("20") SESSION, 33, 0},
+    {"next: the largest place", MESSAGE("20") SESSION, SIZE_MAX, 0},
+    {"next: the last byte", MESSAGE("20") SESSION, 31, 4},
+    {"next: header cut off", MESSAGE("27") SESSION NO_HEAD, 32, 4},
+    {"next: data cut off", MESSAGE("2A") SESSION NO_DATA, 32, 4},
+    {"next: padding cut off", MESSAGE("2B") SESSION NO_PADDING, 32, 4},
+    {"next: length 7", MESSAGE("1C") TOO_SHORT, 20, 4},
+    {"next: vendor bit and length 8", MESSAGE("20") NO_VENDOR, 20, 4},
+};
+
+static size_t step(const uint8_t *message, size_t length, size_t place, const struct step *expected) {
+    uint64_t outline[TANDREKILY_OUTLINE];
+    spoil(TANDREKILY_OUTLINE, outline);
+    size_t past = tandrekily_next(message, length, place, outline);
+    check_numbers(expected->name, TANDREKILY_OUTLINE, expected->outline, outline);
+    check(expected->name, "another place", past == expected->past);
+    return past;
+}
+
+static void steps(void) {
+    static const struct step odd = {"next: a place that 4 does not divide", 17, {0, 0, 1, 263, 0x40, 11, 0, 13, 1, 0}};
+    uint8_t message[MOST];
+    size_t length = bytes_of(WALKED, message);
+    size_t place = TANDREKILY_HEADER;
+    for (size_t i = 0; i < sizeof walked / sizeof *walked; i++) place = step(message, length, place, &walked[i]);
+    for (size_t i = 0; i < sizeof stays / sizeof *stays; i++) {
+        struct step expected = {stays[i].name, stays[i].place, {stays[i].number}};
+        length = bytes_of(stays[i].message, message);
+        step(message, length, stays[i].place, &expected);
+    }
+    length = bytes_of("FFFFFFFFFF" SESSION, message);
+    step(message, length, 5, &odd);
+}
+
+// Lengths and places of three bytes.
+static void long_avp(void) {
+    static const struct step first = {"next: a long AVP", 66072, {0, 0, 1, 264, 0x40, 0x010203, 0, 28, 1, 0}};
+    static const struct step second = {"next: after a long AVP", 66084, {0, 0, 1, 263, 0x40, 11, 0, 66080, 1, 0}};
+    static uint8_t message[66084];
+    bytes_of("01010224 00000000 00000000 00000000 00000000 00000108 40 010203", message);
+    bytes_of(SESSION, message + 66072);
+    search("find: a long AVP", message, sizeof message, 264, first.outline);
+    search("find: after a long AVP", message, sizeof message, 263, second.outline);
+    step(message, sizeof message, step(message, sizeof message, TANDREKILY_HEADER, &first), &second);
 }
 
 // ---- the writer
@@ -252,7 +408,7 @@ static void write(const struct written *w) {
     size_t total = bytes_of(w->message, message);
     expected[TANDREKILY_LENGTH] = total;
     memset(out, LENT, sizeof out);
-    spoil(result);
+    spoil(TANDREKILY_RESULT, result);
     tandrekily_write(0xC5, w->code, 3, 0x01020304, 0x05060708, table, table_length, pool, pool_length, out, w->room, result);
     check_result(w->name, expected, result);
     check(w->name, "the message is another", memcmp(out, message, total) == 0);
@@ -266,7 +422,7 @@ static void too_long(void) {
     uint64_t result[TANDREKILY_RESULT];
     for (size_t i = 0; i < sizeof table; i += TANDREKILY_RECORD_SIZE)
         bytes_of("0000002C 00 010008 00000000 00000000 01 01 00 00 00000000 00000000 00000000", table + i);
-    spoil(result);
+    spoil(TANDREKILY_RESULT, result);
     tandrekily_write(0, 0, 0, 0, 0, table, sizeof table, pool, sizeof pool, out, sizeof out, result);
     check_refusal("write: over 16,777,215 bytes", 10, 0, result);
     check("write: over 16,777,215 bytes", "the output was changed", out[0] == LENT);
@@ -305,6 +461,9 @@ static void times(void) {
 int main(void) {
     decoders();
     headers();
+    searches();
+    steps();
+    long_avp();
     writer();
     texts();
     times();
