@@ -21,6 +21,8 @@ int main(int count, char **words) {
         return 2;
     }
     save(words[1], "typical", message_typical(bytes));
+    save(words[1], "session_first", message_session(bytes, 0));
+    save(words[1], "session_last", message_session(bytes, 19));
     save(words[1], "small64k", message_small(bytes, 65536));
     save(words[1], "nested30", message_nested(bytes, 30));
     save(words[1], "small16m", message_small(bytes, MESSAGE_MOST));

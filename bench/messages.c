@@ -49,6 +49,10 @@ static uint8_t *start_any(uint8_t *out) {
 
 // ---- the typical message
 
+static uint8_t *session(uint8_t *at) {
+    return TEXT(at, 263, "gateway-01.example.net;1876543210;523;accounting");
+}
+
 static uint8_t *proxy_info(uint8_t *group) {
     uint8_t *at = TEXT(group + HEAD, 280, "proxy2.example.net");
     at = TEXT(at, 33, "\x00\x01\x02\x03\xA0\xA1\xA2\xA3");
@@ -66,7 +70,7 @@ static uint8_t *application(uint8_t *group) {
 
 size_t message_typical(uint8_t *out) {
     uint8_t *at = start(out, 0xC0, 271, 3, 0x1B2C3D4E, 0x5A6B7C8D);
-    at = TEXT(at, 263, "gateway-01.example.net;1876543210;523;accounting");
+    at = session(at);
     at = TEXT(at, 264, "gateway-01.example.net");
     at = TEXT(at, 296, "example.net");
     at = TEXT(at, 283, "example.net");
@@ -82,6 +86,25 @@ size_t message_typical(uint8_t *out) {
     at = application(at);
     at = number(at, 483, 1);
     return finish(out, at);
+}
+
+// ---- a Session-Id behind some of the others
+
+// Ten numbers and nine texts in turn.
+static uint8_t *other(uint8_t *at, size_t i) {
+    static const uint32_t numbers[] = {480, 485, 259, 85, 278, 55, 483, 268, 258, 266};
+    static const uint32_t texts[] = {264, 296, 283, 1, 282, 293, 281, 269, 294};
+    if (i % 2 == 1) return TEXT(at, texts[i / 2], "relay4.core.example.net");
+    return number(at, numbers[i / 2], 3900000000u);
+}
+
+size_t message_session(uint8_t *out, size_t before) {
+    uint8_t *at = start(out, 0xC0, 271, 3, 0x1B2C3D4E, 0x5A6B7C8D);
+    for (size_t i = 0; i < 19; i++) {
+        if (i == before) at = session(at);
+        at = other(at, i);
+    }
+    return finish(out, before == 19 ? session(at) : at);
 }
 
 // ---- the others

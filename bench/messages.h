@@ -11,6 +11,9 @@ enum { MESSAGE_MOST = 16777215 };
 // An accounting request of 20 AVPs, two of them groups with 2 and 3 members.
 size_t message_typical(uint8_t *out);
 
+// An accounting request of 20 AVPs and no group, its Session-Id behind so many of the others, 19 at most.
+size_t message_session(uint8_t *out, size_t before);
+
 // Nothing but AVPs without data, as many as `most` bytes hold.
 size_t message_small(uint8_t *out, size_t most);
 

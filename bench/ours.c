@@ -1,5 +1,6 @@
 // `ours message|write FILE N`: decodes the message in FILE N times, or decodes it once and writes it N times.
 // Prints the records, the headers tried, and the bytes that each decoding cleared or each writing wrote.
+// `ours find FILE N`: finds its Session-Id N times. Prints how many AVPs were stepped over.
 // `ours records FILE 1`: writes what was decoded, as `oracle records` does for the Rust.
 #include "tandrekily.h"
 #include <inttypes.h>
@@ -7,7 +8,7 @@
 #include <stdlib.h>
 #include <string.h>
 
-enum { DEPTH = 64, MOST = 16777215 };
+enum { DEPTH = 64, MOST = 16777215, SESSION_ID = 263 };
 
 static uint8_t input[MOST], out[MOST];
 static size_t length;
@@ -50,6 +51,25 @@ static void encode(const uint64_t *read, uint64_t *result) {
     if (result[TANDREKILY_NUMBER] != TANDREKILY_ACCEPTED) stop("the table is refused");
 }
 
+// How many AVPs stand before the one that is found, by another way: a step over each.
+static int passed(const uint64_t *found) {
+    uint64_t outline[TANDREKILY_OUTLINE];
+    int n = 0;
+    for (size_t place = TANDREKILY_HEADER;; n++) {
+        place = tandrekily_next(input, length, place, outline);
+        if (!outline[TANDREKILY_OUTLINE_FOUND]) stop("what was found is not there");
+        if (memcmp(outline, found, sizeof outline) == 0) return n;
+    }
+}
+
+static int find(int times) {
+    uint64_t outline[TANDREKILY_OUTLINE];
+    for (; times > 0; times--) tandrekily_find(input, length, SESSION_ID, outline);
+    if (!outline[TANDREKILY_OUTLINE_FOUND]) stop("the message has no Session-Id");
+    printf("%d\n", passed(outline));
+    return 0;
+}
+
 // A big-endian number of so many bytes.
 static void put(uint64_t number, int bytes) {
     while (bytes-- > 0) putchar((int)(number >> (8 * bytes) & 0xFF));
@@ -65,9 +85,10 @@ static void put_all(const uint64_t *read) {
 
 int main(int count, char **words) {
     uint64_t read[TANDREKILY_RESULT], written[TANDREKILY_RESULT];
-    if (count != 4) stop("usage: ours message|write|records FILE N");
+    if (count != 4) stop("usage: ours message|write|records|find FILE N");
     bool writing = strcmp(words[1], "write") == 0;
     load(words[2]);
+    if (strcmp(words[1], "find") == 0) return find(atoi(words[3]));
     lend();
     for (int left = writing ? 1 : atoi(words[3]); left > 0; left--) decode(read);
     if (strcmp(words[1], "records") == 0) {
