@@ -2,13 +2,15 @@
 -- accepted, `find` answers from the table that was left: the first record of depth 1 with the code, or none where there is none. Of what
 -- `parse` refused as NotTiled it finds the first such AVP before the failing place. What `find` refuses, `parse` refuses in the same
 -- words. Between the contracts stand the laws of rfc6733/proofs/Sought.
-use Prim.Native.Nat.{ℕ, _*_, _≤_}
+use Prim.Native.Nat.{ℕ, _-_, _*_, _≤_, _<_}
 use mathlib.Core.Path.{_≡_, refl, sym, ap, _∙_}
 use mathlib.Core.Bool.{true}
 use mathlib.Core.Option.{Option, none, some}
 use mathlib.Core.Logic.{inl, inr}
-use mathlib.Core.List.{List, [], _∷_, map}
-use lib.ListN.{take}
+use mathlib.Core.List.{List, [], _∷_, _++_, map, append-assoc}
+use native.Mathlib.Omega.{arith}
+use lib.ListN.{length, take, drop, replicate, length-append, length-drop}
+use lib.Seq.{drop-at, take-append-le, drop-append-le}
 use lib.Dec.{eqb}
 use borrow.Author.Tests.{le-leb}
 use contract.Lifetimes.{Lfts}
@@ -18,15 +20,20 @@ use Rattle.octets.specs.Run.{tree}
 use Rattle.refusal.specs.Answer.{Refusal, accepted}
 use Rattle.refusal.specs.declared.Refusal.the-variants.{NotTiled}
 use Rattle.refusal.proofs.Tests.{decide}
-use Rattle.record.specs.Record.{Record, recordSize}
-use Rattle.record.specs.Outline.{Outline, outlineOf}
+use Rattle.record.specs.Record.{Record, recordSize, recordBytes, laid}
+use Rattle.record.specs.Outline.{Outline, outlineOf, outlineBytes}
 use Rattle.record.specs.Table.{bare, tableOf, ofDepth}
 use Rattle.record.specs.Store.{stored}
 use Rattle.rfc6733.specs.Header.{headerSize}
 use Rattle.rfc6733.specs.Records.{unentered}
-use Rattle.rfc6733.specs.Decoder.{allowed, messageBody, messageRecords}
+use Rattle.rfc6733.specs.Decoder as definition
+use Rattle.rfc6733.specs.Decoder.{allowed, runCounts, messageBody, messageRecords, messageOf, decoded}
 use Rattle.rfc6733.specs.Search.{outlines, firstWith}
+use Rattle.rfc6733.proofs.Accepted.{when-accepted}
+use Rattle.rfc6733.proofs.FirstRecord.{FirstRecord, first-record}
 use Rattle.rfc6733.proofs.Sought.{sought-accepted, beforeFailing, sought-failing, sought-refused}
+use Rattle.record.proofs.Layouts.{record-length, laid-length, laid-append}
+use Rattle.record.proofs.Outlines.{outline-bytes}
 use Rattle.round_trip.proofs.Tables.{laid-read}
 use Rattle.round_trip.proofs.RoundTrip.{records-fit}
 use Rattle.attribute.specs.declared.Reading.{Reading}
@@ -41,7 +48,7 @@ use Rattle.reader.specs.declared.Found.the-variants.{At, None, Refused}
 use Rattle.reader.specs.Reading as reader
 use Rattle.reader.proofs.AnswerOf.{outcome-back, outcome-is-back}
 use Rattle.promises.proofs.OneOutcome.Calls.{Slice, Parse, Find}
-use Rattle.promises.proofs.RoundTrip.{lawful, Left, left}
+use Rattle.promises.proofs.RoundTrip.{lawful, left}
 
 -- what stands first in a table
 abbrev pub shown : Option Outline → Found
@@ -78,6 +85,77 @@ found-in-the-table κs reading limit input store m store′ λs code r p q bytes
     let found = firstWith code (map outlineOf (ofDepth 1 (messageRecords D s))) in
     sym (outcome-is-back r) ∙ ap outcome-back (q ∙ sought-accepted code s D _ _ (messageAs m) e) ∙ shown-back found
     ∙ rw (l .records-are, laid-read (messageRecords D s) fits, bare-outlines 1 (messageRecords D s))
+
+-- ---- the same in bytes
+
+-- the outline is bytes 0..15 and 19..22 of the record at an index of the store, one of n; it is the first of depth 1 with the code
+pub record InTheStore (code : ℕ) (table : List Record) (n : ℕ) (store : List ℕ) (o : Outline) : Type 0 where
+  pub index : ℕ
+  pub among : index < n
+  pub same-bytes : outlineBytes o ≡ take 16 (drop (index * recordSize) store) ++ take 4 (drop 19 (drop (index * recordSize) store))
+  pub first : FirstRecord code table o
+  pub index-is : index ≡ length (first .before)
+
+-- the bytes of a record that has some before it and anything behind
+record-there : (before behind : List Record) (it : Record) (rest : List ℕ)
+    → let here = drop (length before * recordSize) (laid (before ++ (it ∷ behind)) ++ rest) in
+    outlineBytes (outlineOf it) ≡ take 16 here ++ take 4 (drop 19 here)
+record-there before behind it rest =
+    let more = laid behind ++ rest in
+    let n = record-length it in
+    let there : drop (length before * recordSize) (laid (before ++ (it ∷ behind)) ++ rest) ≡ recordBytes it ++ more =
+    rw (laid-append before (it ∷ behind), append-assoc (laid before) (laid (it ∷ behind)) rest, append-assoc (recordBytes it) (laid behind) rest)
+    (drop-at (laid before) (recordBytes it ++ more) (length before * recordSize) (omega (arith, laid-length before)))
+    in
+    outline-bytes it
+    ∙ rw (
+      there,
+      take-append-le 16 (recordBytes it) more (omega arith),
+      drop-append-le 19 (recordBytes it) more (omega arith),
+      take-append-le 4 (drop 19 (recordBytes it)) more (omega (arith, length-drop 19 (recordBytes it))),
+    )
+
+found-outline : (o : Outline) (x : Option Outline) → reader.answerOf (At o) ≡ accepted x → x ≡ some o
+unfolding reader.answerOf
+found-outline o x e = cc
+
+records-counted : (reading : Reading) (limit room : ℕ) (s : List ℕ) (m : Message) → decoded (dictionary reading) limit room s ≡ accepted (messageAs m)
+    → length (messageRecords (dictionary reading) s) ≡ m .records
+unfolding messageOf runCounts messageRecords messageAs
+records-counted reading limit room s m e =
+    ap (λ (x : definition.Message). x .counts .records) (when-accepted (dictionary reading) limit room s (messageAs m) e .message-is)
+
+-- what was found stands in the store
+pub found-bytes-in-the-store : (κs : Lfts 2) (reading : Reading) (limit : ℕ) (input store : Slice) (m : Message) (store′ : Slice)
+    (λs : Lfts 1) (code : ℕ) (o : Outline)
+    → Parse κs reading limit input store (decoder.Accepted m) store′ → Find λs input code (At o)
+    → InTheStore code (messageRecords (dictionary reading) (now input)) (m .records) (now store′) o
+unfolding answerOf stored
+found-bytes-in-the-store κs reading limit input store m store′ λs code o p q =
+    let D = dictionary reading in
+    let s = now input in
+    let e = sym (p .0) in
+    let f = first-record code o (messageRecords D s) (found-outline o _ (q ∙ sought-accepted code s D _ _ (messageAs m) e)) in
+    let n = ap length (f .table-is) ∙ length-append (f .before) (f .it ∷ f .behind) in
+    let store-is : now store′ ≡ laid (f .before ++ (f .it ∷ f .behind)) ++ cleared (f .before ++ (f .it ∷ f .behind)) =
+    p .1 ∙ ap (λ (rs : List Record). laid rs ++ cleared rs) (f .table-is)
+    in
+    record {
+      index = length (f .before);
+      among = omega (arith, records-counted reading _ _ s m e);
+      same-bytes =
+          ap outlineBytes (f .outline-is)
+          ∙ record-there (f .before) (f .behind) (f .it) (cleared (f .before ++ (f .it ∷ f .behind)))
+          ∙ sym (ap (λ (x : List ℕ). let here = drop (length (f .before) * recordSize) x in take 16 here ++ take 4 (drop 19 here)) store-is);
+      first = f;
+      index-is = refl;
+    }
+  where
+    -- zero to the last byte
+    cleared : List Record → List ℕ
+    cleared rs = replicate (length (now store) - length (laid rs)) 0
+
+-- ---- where the payload does not tile
 
 -- what stands before the failing place
 abbrev pub shownFailing : Option Outline → Found

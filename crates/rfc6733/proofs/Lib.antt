@@ -11,6 +11,7 @@ pub mod Messages
 pub mod Decoded
 pub mod Accepted
 pub mod Sought
+pub mod FirstRecord
 pub mod Demand3
 pub mod MarkedMessages
 pub mod KindsRead

@@ -13,7 +13,7 @@ use Rattle.octets.specs.Run.{item, after, Tree, done, broken, plain, group, nod
 use Rattle.octets.proofs.Runs.{tree-none, tree-step, tree-broken, tree-plain, by-run}
 use Rattle.refusal.proofs.Tests.{decide}
 use Rattle.record.specs.Record.{Record}
-use Rattle.record.specs.Outline.{Outline, outlineOf}
+use Rattle.record.specs.Outline.{outlineOf}
 use Rattle.record.specs.Table.{ofDepth}
 use Rattle.rfc6733.specs.Avp as avp
 use Rattle.rfc6733.specs.Avp.{complete, avpSize}

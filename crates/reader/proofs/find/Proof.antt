@@ -1,5 +1,4 @@
 -- `find` meets its contract: the header's refusals are the answer's, and past them a fresh reader is asked over the message's own bytes.
-use Prim.Native.Nat.{_≤_}
 use mathlib.Core.Path.{sym, ap, _∙_}
 use native.Mathlib.Omega.{arith}
 use lib.ListN.{length-take}

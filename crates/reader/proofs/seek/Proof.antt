@@ -1,7 +1,7 @@
 -- `seek` meets its contract: the search from `at` finds what the search from `place` does, since every AVP passed so far was complete and
 -- had another code. The measure is what is left of the payload.
 use Prim.Native.Nat.{_-_}
-use mathlib.Core.Path.{_≡_, sym, _∙_}
+use mathlib.Core.Path.{sym, _∙_}
 use native.Mathlib.Omega.{arith}
 use lib.ListN.{length}
 use denote.Ref.{now}

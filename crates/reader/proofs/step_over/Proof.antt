@@ -1,5 +1,5 @@
 -- `step_over` meets its contract: the AVP is complete, so its header, data and padding are there, and what is made of them is its outline.
-use Prim.Native.Nat.{ℕ, _+_, _≤_}
+use Prim.Native.Nat.{_+_, _≤_}
 use native.Mathlib.Omega.{arith}
 use lib.ListN.{drop}
 use lib.Seq.{getD-drop}
