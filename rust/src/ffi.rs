@@ -1,4 +1,4 @@
-//! The unsafe boundary: the six functions of the proved library, and one safe wrapper for each. No other file may have `unsafe`.
+//! The unsafe boundary: the eight functions of the proved library, and one safe wrapper for each. No other file may have `unsafe`.
 //!
 //! The declarations are those of `crates/tandrekily/src/lib.rt`. What every call below relies on:
 //!
@@ -13,8 +13,14 @@
 /// The numbers of a result, in the order in which [`Answer::of`](crate::answer::Answer::of) takes them apart.
 pub type Numbers = [u64; 13];
 
+/// The numbers of an outline, in the order in which [`Outline::of`](crate::Outline::of) takes them apart.
+pub type OutlineNumbers = [u64; 10];
+
 /// A result before the call. The library writes all of it.
 const NOTHING: Numbers = [0; 13];
+
+/// An outline before the call. The library writes all of it too.
+const NO_OUTLINE: OutlineNumbers = [0; 10];
 
 extern "C" {
     fn tandrekily_message(
@@ -38,6 +44,15 @@ extern "C" {
         store_len: usize,
         result: *mut Numbers,
     );
+
+    fn tandrekily_find(input: *const u8, input_len: usize, code: u32, result: *mut OutlineNumbers);
+
+    fn tandrekily_next(
+        message: *const u8,
+        message_len: usize,
+        place: usize,
+        result: *mut OutlineNumbers,
+    ) -> usize;
 
     fn tandrekily_write(
         flags: u8,
@@ -99,6 +114,22 @@ pub fn avp(rfc: bool, limit: usize, input: &[u8], store: &mut [u8]) -> Numbers {
         );
     }
     result
+}
+
+pub fn find(input: &[u8], code: u32) -> OutlineNumbers {
+    let mut result = NO_OUTLINE;
+    // SAFETY: `input` is a live slice, which is only read; `result` is 10 numbers of this frame. Any code is answered.
+    unsafe { tandrekily_find(input.as_ptr(), input.len(), code, &mut result) };
+    result
+}
+
+/// The second number is the place past the AVP.
+pub fn next(message: &[u8], place: usize) -> (OutlineNumbers, usize) {
+    let mut result = NO_OUTLINE;
+    // SAFETY: `message` is a live slice, which is only read; `result` is 10 numbers of this frame. Any place is answered, one past
+    // the end too.
+    let past = unsafe { tandrekily_next(message.as_ptr(), message.len(), place, &mut result) };
+    (result, past)
 }
 
 pub fn write(fields: crate::Fields, table: &[u8], pool: &[u8], out: &mut [u8]) -> Numbers {

@@ -26,6 +26,32 @@
 //! # Ok::<(), tandrekily::Refusal>(())
 //! ```
 //!
+//! # Finding one AVP
+//!
+//! Where one AVP is all that is wanted, [`find`] gives its [`Outline`]. It reads the headers of the AVPs up to that one, enters no
+//! group and needs no store. A [`Reader`] goes over the AVPs one by one, or from one with a code to the next:
+//!
+//! ```
+//! use tandrekily::{find, Reader};
+//!
+//! // A header, two Route-Records and a Session-Id.
+//! let message = b"\x01\0\0\x3C\0\0\0\0\0\0\0\0\0\0\0\0\0\0\0\0\
+//!     \0\0\x01\x1A\0\0\0\x09a\0\0\0\
+//!     \0\0\x01\x1A\0\0\0\x09b\0\0\0\
+//!     \0\0\x01\x07\0\0\0\x0Da;1;2\0\0\0";
+//! let session_id = find(message, 263)?.and_then(|avp| avp.data(message));
+//! assert_eq!(session_id, Some(&b"a;1;2"[..]));
+//!
+//! let mut reader = Reader::new(message)?;
+//! let mut routes = 0;
+//! while let Some(avp) = reader.find(282)? {
+//!     assert_eq!(avp.data(message).map(<[u8]>::len), Some(1));
+//!     routes += 1;
+//! }
+//! assert_eq!(routes, 2);
+//! # Ok::<(), tandrekily::Refusal>(())
+//! ```
+//!
 //! # Writing
 //!
 //! What was decoded is written back byte for byte: `write(decoded.header.into(), decoded.table(), &message, &mut out)`. A message
@@ -62,12 +88,14 @@ mod answer;
 #[allow(unsafe_code)]
 mod ffi;
 mod header;
+mod reader;
 mod record;
 mod refusal;
 mod value;
 
 use answer::Answer;
 pub use header::{Fields, Header};
+pub use reader::{find, Outline, Reader};
 pub use record::{Avp, Record, Records};
 pub use refusal::Refusal;
 pub use value::{kinds, Value};

@@ -39,6 +39,21 @@ fn number(bytes: &[u8]) -> u64 {
     bytes.iter().fold(0, |n, &byte| n << 8 | u64::from(byte))
 }
 
+/// How long an AVP's header is, by its flags.
+pub(crate) fn header_size(flags: u8) -> usize {
+    if flags & Record::VENDOR_SPECIFIC_FLAG != 0 {
+        12
+    } else {
+        8
+    }
+}
+
+/// The data of an AVP with these flags and this length, if they stand at this place of the input.
+pub(crate) fn data_at(input: &[u8], place: usize, flags: u8, length: u32) -> Option<&[u8]> {
+    let size = (length as usize).checked_sub(header_size(flags))?;
+    input.get(place..)?.get(..size)
+}
+
 impl Record {
     /// How many bytes a record has in the table.
     pub const SIZE: usize = 32;
@@ -111,17 +126,12 @@ impl Record {
 
     /// How long the AVP's header is: 8 bytes, and 12 with the Vendor-ID.
     pub fn header_size(&self) -> usize {
-        if self.is_vendor_specific() {
-            12
-        } else {
-            8
-        }
+        header_size(self.flags)
     }
 
     /// The AVP's data in the input that the record came from. None where the record doesn't fit this input.
     pub fn data<'a>(&self, input: &'a [u8]) -> Option<&'a [u8]> {
-        let size = (self.length as usize).checked_sub(self.header_size())?;
-        input.get(self.place as usize..)?.get(..size)
+        data_at(input, self.place as usize, self.flags, self.length)
     }
 }
 

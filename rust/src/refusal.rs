@@ -3,12 +3,12 @@
 use core::error::Error;
 use core::fmt::{Display, Formatter, Result};
 
-/// Why nothing was decoded or written. A refusal has changed no byte of the store or the output.
+/// Why nothing was decoded, found or written. A refusal has changed no byte of the store or the output.
 ///
 /// Where more than one holds, the first is given, in this order: to decode a message, [`BadDepth`](Refusal::BadDepth), then
 /// [`Incomplete`](Refusal::Incomplete), [`NotVersion`](Refusal::NotVersion) and [`BadLength`](Refusal::BadLength) as the header's
 /// bytes are read, then [`NotTiled`](Refusal::NotTiled), [`TooDeep`](Refusal::TooDeep), [`NoRecords`](Refusal::NoRecords); to
-/// write, the last four in the order below.
+/// find an AVP, those of the header and then [`NotTiled`](Refusal::NotTiled); to write, the last four in the order below.
 ///
 /// ```
 /// use tandrekily::{header, Refusal};
@@ -30,7 +30,7 @@ pub enum Refusal {
     /// The message's length is under 4, or under 20 with that many bytes there; for one AVP alone, its length is under its header's
     /// size.
     BadLength,
-    /// The AVPs don't cover the message to its last byte.
+    /// The AVPs don't cover the message to its last byte; to find one, none has the code before the place where they break off.
     NotTiled,
     /// The message is nested deeper than the limit.
     TooDeep,

@@ -1,6 +1,6 @@
-//! The flag questions of a header and of a record, over all 256 bytes of flags.
+//! The flag questions of a header, a record and an outline, over all 256 bytes of flags.
 
-use tandrekily::{Header, Record};
+use tandrekily::{Header, Outline, Record};
 
 #[test]
 fn of_a_header() {
@@ -43,5 +43,17 @@ fn of_a_record() {
         );
         assert_eq!(record.get_reserved(), flags % 32);
         assert_eq!(record.header_size(), if flags < 128 { 8 } else { 12 });
+    }
+}
+
+#[test]
+fn of_an_outline() {
+    for flags in 0..=u8::MAX {
+        let outline = Outline {
+            flags,
+            ..Outline::default()
+        };
+        assert_eq!(outline.is_vendor_specific(), flags >= 128, "{flags:08b}");
+        assert_eq!(outline.header_size(), if flags < 128 { 8 } else { 12 });
     }
 }

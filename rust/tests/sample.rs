@@ -3,11 +3,17 @@
 mod frames;
 
 use frames::{be_u32, frames, replay, Frame};
-use tandrekily::{decode, decode_avp, header, write, Fields, Header, Records, Refusal};
+use tandrekily::{decode, decode_avp, find, header, write};
+use tandrekily::{Fields, Header, Reader, Reading, Records, Refusal};
 
 const MESSAGE: u8 = 0;
 const HEADER_ALONE: u8 = 1;
 const AVP_ALONE: u8 = 2;
+const SEARCH: u8 = 4;
+const STEPS: u8 = 5;
+
+/// How many cases of each function there are at least.
+const CASES: [usize; 6] = [4_400, 100, 1_500, 120, 1_400, 600];
 
 /// Where the table starts in the input of a case for the writer, after the fields and the table's length.
 const TABLE: usize = 21;
@@ -108,6 +114,59 @@ fn table(frame: &Frame, store: &mut [u8], out: &mut Vec<u8>) {
     }
 }
 
+/// The code stands before the message. A fresh reader must find the same.
+fn search(frame: &Frame, out: &mut Vec<u8>) {
+    let (code, message) = frame.input.split_at(4);
+    let code = be_u32(code);
+    let found = find(message, code);
+    let by_reader = Reader::new(message).and_then(|mut reader| reader.find(code));
+    assert_eq!(found, by_reader);
+    match found {
+        Ok(Some(outline)) => {
+            put_accepted(out);
+            out.push(1);
+            out.extend(outline.to_bytes());
+        }
+        Ok(None) => {
+            put_accepted(out);
+            out.push(0);
+        }
+        Err(refusal) => put_refusal(out, refusal),
+    }
+}
+
+/// The bytes of a case as a message that a reader accepts. The steps start behind the header and don't look at it, and in some cases
+/// it is not whole or has another length. So it is made whole and given the length of what is there, which most of them have.
+fn followed(bytes: &[u8]) -> Vec<u8> {
+    let mut message = bytes.to_vec();
+    message.resize(bytes.len().max(Header::SIZE), 0);
+    let length = message.len() as u32;
+    message[..4].copy_from_slice(&length.to_be_bytes());
+    message[0] = 1;
+    message
+}
+
+/// There are fewer steps than bytes.
+fn steps(frame: &Frame, out: &mut Vec<u8>) {
+    let message = followed(&frame.input);
+    let mut reader = Reader::new(&message).expect("a header that fits");
+    for _ in 0..message.len() {
+        let step = reader.next();
+        match step {
+            Some(Ok(outline)) => {
+                out.push(1);
+                out.extend(outline.to_bytes());
+            }
+            Some(Err(_)) => out.push(2),
+            None => out.push(0),
+        }
+        put_count(out, reader.place());
+        if !matches!(step, Some(Ok(_))) {
+            return;
+        }
+    }
+}
+
 fn answer(frame: &Frame) -> Vec<u8> {
     let mut out = Vec::new();
     let mut store = frame.store();
@@ -115,6 +174,8 @@ fn answer(frame: &Frame) -> Vec<u8> {
         MESSAGE => message(frame, &mut store, &mut out),
         HEADER_ALONE => header_alone(frame, &mut out),
         AVP_ALONE => avp_alone(frame, &mut store, &mut out),
+        SEARCH => search(frame, &mut out),
+        STEPS => steps(frame, &mut out),
         _ => table(frame, &mut store, &mut out),
     }
     out.extend(store);
@@ -140,16 +201,14 @@ fn every_answer_is_the_recorded_one() {
 
 #[test]
 fn the_sample_has_every_function_and_both_readings() {
-    for function in 0..=3 {
-        assert!(
-            frames().iter().any(|f| f.function == function),
-            "no case of function {function}"
-        );
+    let sample = frames();
+    for (function, least) in CASES.into_iter().enumerate() {
+        let of_it = sample
+            .iter()
+            .filter(|f| usize::from(f.function) == function);
+        let cases = of_it.count();
+        assert!(cases >= least, "{cases} cases of function {function}");
     }
-    assert!(frames()
-        .iter()
-        .any(|f| f.reading == tandrekily::Reading::Sawp));
-    assert!(frames()
-        .iter()
-        .any(|f| f.reading == tandrekily::Reading::Rfc));
+    assert!(sample.iter().any(|f| f.reading == Reading::Sawp));
+    assert!(sample.iter().any(|f| f.reading == Reading::Rfc));
 }

@@ -1,4 +1,4 @@
-//! The frames that crates/replay is run on; oracle/README.md has their layout.
+//! The frames that crates/replay is run on; oracle/README.md and oracle/model.py have their layout.
 
 use std::fs;
 
@@ -67,7 +67,7 @@ pub fn frames() -> Vec<Frame> {
         frames.push(next);
     }
     assert!(
-        frames.len() > 6000,
+        frames.len() > 8000,
         "the sample is cut short: {} cases",
         frames.len()
     );
