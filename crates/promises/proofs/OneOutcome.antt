@@ -54,7 +54,7 @@ use Rattle.front.proofs.parse.Reads as front-parse
 use Rattle.front.proofs.pads.Reads as pads
 use Rattle.front.proofs.tiles.Reads as tiles
 use Rattle.reader.proofs.Step.answer.Reads as step-answer
-use Rattle.reader.proofs.step_at.Reads as step-at
+use Rattle.reader.proofs.next.Reads as next
 use Rattle.reader.proofs.find.Reads as find
 use Rattle.record.proofs.Record.get.Reads as record-get
 use Rattle.record.proofs.Record.read.Reads as record-read
@@ -230,9 +230,6 @@ tiles-one κs a r r′ s p q = p ∙ sym q
 step-answer-one : Single step-answer.Post
 step-answer-one κs a r r′ s p q = p ∙ sym q
 
-step-at-one : Single step-at.Post
-step-at-one κs a r r′ s p q = p ∙ sym q
-
 reader-new-one : (message : Slice) (r r′ : Reader) → ReaderNew message r → ReaderNew message r′ → r ≡ r′
 reader-new-one message r r′ p q = whole (p .0 ∙ sym (q .0)) (p .1 ∙ sym (q .1))
   where
@@ -245,6 +242,9 @@ reader-next-one self r r′ after after′ p q = (p .found-is ∙ sym (q .found-
 
 reader-find-one : (self : RefT Reader) (code : ℕ) → Settled (ReaderFind self code)
 reader-find-one self code r r′ after after′ p q = (p .found-is ∙ sym (q .found-is), p .reader-is ∙ sym (q .reader-is))
+
+next-one : Single next.Post
+next-one κs a r r′ s p q = p ∙ sym q
 
 find-one : Single find.Post
 find-one κs a r r′ s p q = reader-answers.answer-of-injective r r′ (p ∙ sym q)

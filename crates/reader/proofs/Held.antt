@@ -91,7 +91,7 @@ module _ {M : Type 1} (𝓤 : URA M) (H : Heap 𝓤) (A : Atoms 𝓤) (W : Given
       qed W (‵ (P.the-row .own r (P-val r ∷ [])) ∷ []) ∵
       use1 W (given (P-val r ∷ [] ≡ P-val r ∷ []) (‵ (all-own (P.the-type .parts) P′.the-laws (r .found, (r .place, tt))))) (own-open 𝓤 H A W P.the-type P′.the-laws (r .found, (r .place, tt)) (P-val r)) $ learn ! (λ _. fsplit ! $ keep ! (0 ∷ []) $ done !)
 
--- ---- a local that holds the struct is lent as `&mut`, and is room again once the loan has ended
+-- ---- a local that holds the struct is lent as `&mut`, and lies there again, or is room, once the loan has ended
 
 module _ {M : Type 1} (𝓤 : URA M) (H : Heap 𝓤) (A : Atoms 𝓤) (W : Given 𝓤 H A) (κ′ : Lft) (b : ℕ) where
   pub lies-in : (h : Reader) → ent 𝓤 (sep 𝓤 (sem 𝓤 H A (fat fullShare (T′.mir erased) b 0 (T′.lowered h))) (sem 𝓤 H A (Own κ′ h))) (sem 𝓤 H A (partAt (B κ′) fullShare h b 0))
@@ -101,10 +101,15 @@ module _ {M : Type 1} (𝓤 : URA M) (H : Heap 𝓤) (A : Atoms 𝓤) (W : Given
       use1 W (‵ (cellAt fullShare (B κ′ .mir) (T′.lowered h ∷ []) b 0)) (W .laws .at-raw fullShare (T′.mir erased) b 0 (T′.lowered h)) $ fjoin ! $
       fpack ! (List Val) (λ vs. fsep (cellAt fullShare (B κ′ .mir) vs b 0) (B κ′ .own h vs)) (T′.lowered h ∷ []) $ done !
 
-  pub room-back : (κ : Lft) (γ : GName) → ent 𝓤 (sep 𝓤 (A .dead κ) (A .lent κ (Body (mem (B κ′)) b 0 γ))) (H .⇛ (H .room (T′.mir erased) b 0))
+  pub lies-out : (h : Reader) → ent 𝓤 (sem 𝓤 H A (partAt (B κ′) fullShare h b 0)) (sep 𝓤 (sem 𝓤 H A (fat fullShare (T′.mir erased) b 0 (T′.lowered h))) (sem 𝓤 H A (Own κ′ h)))
   unfolding partOf
-  room-back κ γ =
-      qed W (‵ (fdead κ) ∷ ‵ (flent κ (Body (mem (B κ′)) b 0 γ)) ∷ []) ∵ updating ! $ lent-back ! tt $ fpick ! (λ h. fsplit ! $ fpick ! (λ vs. fsplit ! $
+  lies-out h =
+      qed W (‵ (partAt (B κ′) fullShare h b 0) ∷ []) ∵ fpick ! (λ vs. fsplit ! $
       spelt ! (B κ′) (Is (B κ′)) (shows 𝓤 H A (B κ′)) (LL.vals (D κ′) (L κ′)) (LL.tells (D κ′) (L κ′)) fullShare h vs b 0 $
-      use1 W (‵ (fat fullShare (T′.mir erased) b 0 (T′.lowered h))) (W .laws .raw-at fullShare (T′.mir erased) b 0 (T′.lowered h)) $
-      use1 W (‵ (froom (T′.mir erased) b 0)) (W .laws .at-room (T′.mir erased) b 0 (T′.lowered h)) $ at-once ! $ keep ! (0 ∷ []) $ done !))
+      use1 W (‵ (fat fullShare (T′.mir erased) b 0 (T′.lowered h))) (W .laws .raw-at fullShare (T′.mir erased) b 0 (T′.lowered h)) $ keep ! (0 ∷ 1 ∷ []) $ done !)
+
+  pub room-back : (κ : Lft) (γ : GName) → ent 𝓤 (sep 𝓤 (A .dead κ) (A .lent κ (Body (mem (B κ′)) b 0 γ))) (H .⇛ (H .room (T′.mir erased) b 0))
+  room-back κ γ =
+      qed W (‵ (fdead κ) ∷ ‵ (flent κ (Body (mem (B κ′)) b 0 γ)) ∷ []) ∵ updating ! $ lent-back ! tt $ fpick ! (λ h. fsplit ! $
+      use1 W (‵ (fat fullShare (T′.mir erased) b 0 (T′.lowered h)) ⊛ ‵ (Own κ′ h)) (lies-out h) $ split ! $
+      use1 W (‵ (froom (T′.mir erased) b 0)) (W .laws .at-room (T′.mir erased) b 0 (T′.lowered h)) $ at-once ! $ keep ! (0 ∷ []) $ done !)

@@ -77,8 +77,8 @@ fn step_over(payload: &[u8], at: usize, a: AVP) -> Stepped
     }
 }
 
-/// The AVP at `place`, and the place past it. The place stays where there is none, and so does one past the end.
-pub fn step_at(payload: &[u8], place: usize) -> Stepped
+// The AVP at `place`, and the place past it. The place stays where there is none, and so does one past the end.
+fn step_at(payload: &[u8], place: usize) -> Stepped
     ensures { λ r. ⌜ r ≡ stepAt (now (payload .entry)) place ⌝ }
 {
     if payload.len() <= place {
@@ -162,6 +162,21 @@ fn ask(message: &[u8], code: u32) -> Step
 {
     let mut r = Reader::new(message);
     r.find(code)
+}
+
+/// The AVP at `place` of a message, and where a reader that stood there then stands.
+pub fn next(message: &[u8], place: usize) -> Stepped
+    ensures { λ r. ⌜ r ≡ stepAt (now (message .entry)) place ⌝ }
+{
+    let mut r = Reader {
+        payload: message,
+        place,
+    };
+    let found = r.next();
+    Stepped {
+        found,
+        place: r.place,
+    }
 }
 
 /// The first AVP with this code at the top level of the message at the front of `input`. All of the message must be there.

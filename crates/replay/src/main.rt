@@ -158,7 +158,7 @@ fn steps(message: &[u8]) {
             return;
         }
         left -= 1;
-        let s = reader::step_at(message, place);
+        let s = reader::next(message, place);
         let found = s.found;
         more = write_step(found);
         place = s.place;

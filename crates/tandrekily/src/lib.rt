@@ -235,7 +235,7 @@ pub extern "C" fn tandrekily_next(
     ensures place { λ r. ⌜ r ≡ stepAt (now (message .entry)) place .place ⌝ }
     ensures result { λ _. ⌜ now (result .exit) ≡ stepResult (stepAt (now (message .entry)) place) ⌝ }
 {
-    let s = reader::step_at(message, place);
+    let s = reader::next(message, place);
     let found = s.found;
     *result = of_found(found.answer());
     s.place

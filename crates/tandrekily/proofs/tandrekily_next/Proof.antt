@@ -1,4 +1,4 @@
--- `tandrekily_next` meets its contract: it lays out what `reader::step_at` finds, and answers the place.
+-- `tandrekily_next` meets its contract: it lays out what `reader::next` finds, and answers the place.
 use mathlib.Core.Path.{ap}
 use borrow.Author.Needs.{needs}
 use Rattle.reader.specs.declared.Stepped.{Stepped}
@@ -7,7 +7,7 @@ use Rattle.tandrekily.proofs.tandrekily_next.Tie as tie
 
 returns : tie.Need-returns
 returns c =
-    let e = c .before .before .step-at .ensures in
+    let e = c .before .before .next .ensures in
     (ap (λ (s : Stepped). s .place) e, rw (c .before .answer .ensures, e) at (c .of-found .ensures))
 
 pub tandrekily-next-spec : {M : Type 1} → statement M
