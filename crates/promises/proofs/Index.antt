@@ -26,10 +26,8 @@ use Rattle.record.specs.Table.{bare, tableOf, ofDepth}
 use Rattle.record.specs.Store.{stored}
 use Rattle.rfc6733.specs.Header.{headerSize}
 use Rattle.rfc6733.specs.Records.{unentered}
-use Rattle.rfc6733.specs.Decoder as definition
-use Rattle.rfc6733.specs.Decoder.{allowed, runCounts, messageBody, messageRecords, messageOf, decoded}
+use Rattle.rfc6733.specs.Decoder.{allowed, messageBody, messageRecords}
 use Rattle.rfc6733.specs.Search.{outlines, firstWith}
-use Rattle.rfc6733.proofs.Accepted.{when-accepted}
 use Rattle.rfc6733.proofs.FirstRecord.{FirstRecord, first-record}
 use Rattle.rfc6733.proofs.Sought.{sought-accepted, beforeFailing, sought-failing, sought-refused}
 use Rattle.record.proofs.Layouts.{record-length, laid-length, laid-append}
@@ -119,12 +117,6 @@ found-outline : (o : Outline) (x : Option Outline) → reader.answerOf (At o) �
 unfolding reader.answerOf
 found-outline o x e = cc
 
-records-counted : (reading : Reading) (limit room : ℕ) (s : List ℕ) (m : Message) → decoded (dictionary reading) limit room s ≡ accepted (messageAs m)
-    → length (messageRecords (dictionary reading) s) ≡ m .records
-unfolding messageOf runCounts messageRecords messageAs
-records-counted reading limit room s m e =
-    ap (λ (x : definition.Message). x .counts .records) (when-accepted (dictionary reading) limit room s (messageAs m) e .message-is)
-
 -- what was found stands in the store
 pub found-bytes-in-the-store : (κs : Lfts 2) (reading : Reading) (limit : ℕ) (input store : Slice) (m : Message) (store′ : Slice)
     (λs : Lfts 1) (code : ℕ) (o : Outline)
@@ -142,7 +134,7 @@ found-bytes-in-the-store κs reading limit input store m store′ λs code o p q
     in
     record {
       index = length (f .before);
-      among = omega (arith, records-counted reading _ _ s m e);
+      among = omega (arith, left reading _ _ s m (now store′) _ e (p .1) .records-counted);
       same-bytes =
           ap outlineBytes (f .outline-is)
           ∙ record-there (f .before) (f .behind) (f .it) (cleared (f .before ++ (f .it ∷ f .behind)))

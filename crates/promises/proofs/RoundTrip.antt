@@ -46,6 +46,7 @@ lawful Rfc = rfc-lawful
 pub record Left (r : Reading) (s : List ℕ) (m : Message) (store : List ℕ) : Type 0 where
   pub header-is : headerOf s ≡ headerAs (m .header)
   pub length-is : messageLength s ≡ m .length
+  pub records-counted : length (messageRecords (dictionary r) s) ≡ m .records
   pub records-are : take (m .records * recordSize) store ≡ laid (messageRecords (dictionary r) s)
 
 pub left : (r : Reading) (limit room : ℕ) (s : List ℕ) (m : Message) (store rest : List ℕ)
@@ -59,6 +60,7 @@ left r limit room s m store rest e is =
     record {
       header-is = ap (λ (x : definition.Message). x .header) (a .message-is);
       length-is = ap (λ (x : definition.Message). x .counts .length) (a .message-is);
+      records-counted = n;
       records-are = ap (take (m .records * recordSize)) is ∙ take-at (laid (messageRecords D s)) rest (m .records * recordSize) (omega arith);
     }
 

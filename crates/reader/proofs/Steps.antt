@@ -63,11 +63,14 @@ module _ (c : ℕ) (s : List ℕ) (from : ℕ) where
   starts = record { same-first = refl; same-end = refl }
 
   module _ (at : ℕ) (k : Seeking at) where
+    stops-at-none : outlines at (tree unentered (drop at s)) ≡ [] → Stops c s from at
+    stops-at-none e = record { same-first = rw e (rw e at (k .same-first)); same-end = k .same-end }
+
     pub stops-at-end : length s ≤ at → Stops c s from at
-    stops-at-end h = let n = left-none s at h in record { same-first = rw (n .0) (rw (n .0) at (k .same-first)); same-end = k .same-end }
+    stops-at-end h = stops-at-none (left-none s at h .0)
 
     pub stops-at-broken : at < length s → complete (drop at s) ≡ false → Stops c s from at
-    stops-at-broken h e = let n = left-broken s at h e in record { same-first = rw (n .0) (rw (n .0) at (k .same-first)); same-end = k .same-end }
+    stops-at-broken h e = stops-at-none (left-broken s at h e .0)
 
     module _ (a : AVP) (t : Turn s at a) where
       more : outlines at (tree unentered (drop at s))
@@ -100,13 +103,8 @@ no-avp f o k e = ⊎-elim (λ t. omega arith) (λ t. omega arith) (rw e at k)
 module _ (at from : ℕ) (t u : Tree) (same : tiles t ≡ tiles u) where
   found-same : (x : Option Outline) (o : Outline) → moved at t x .found ≡ At o → moved at t x ≡ moved from u x
   found-same (some p) o e = refl
-  found-same none o e = absurd (elim (decide (tiles t)) [ inl b ↦ other (rw b at e) | inr b ↦ other′ (rw b at e) ])
-    where
-      other : End ≡ At o → ⊥
-      other f = let z : _≡_ {A = ℕ} 0 1 = cc in omega arith
-
-      other′ : Broken ≡ At o → ⊥
-      other′ f = let z : _≡_ {A = ℕ} 0 1 = cc in omega arith
+  found-same none o e =
+      absurd (elim (decide (tiles t)) [ inl b ↦ no-avp End o (inr refl) (rw b at e) | inr b ↦ no-avp Broken o (inl refl) (rw b at e) ])
 
   none-same : (x : Option Outline) (f : Step) → f ≡ moved at t x .found → OneOf (1 ∷ 2 ∷ []) (tagOf the-type f)
       → record { found = f; place = from } ≡ moved from u x

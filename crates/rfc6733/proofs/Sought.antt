@@ -27,7 +27,7 @@ use Rattle.rfc6733.proofs.Tiling.{tiles-any}
 use Rattle.rfc6733.proofs.Outlines.{outlines-any, outlines-of-records}
 
 -- the test that a search adds to the header's
-abbrev stuck : Option Outline → Bool → List Test
+abbrev pub stuck : Option Outline → Bool → List Test
 stuck found tiled = refuse (isNone found && not tiled) NotTiled ∷ []
 
 stuck-tiled : (x : Option Outline) (b : Bool) → b ≡ true → answer (stuck x b) x ≡ accepted x
