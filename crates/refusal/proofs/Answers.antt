@@ -1,13 +1,14 @@
 -- An acceptance is given exactly where no refusal is, and returns what it was to return.
 use Prim.Native.Nat.{ℕ, _≤_}
 use mathlib.Core.Path.{_≡_, refl, sym, ap, _∙_}
-use mathlib.Core.Bool.{Bool, true, false, cond, not, _&&_}
+use mathlib.Core.Bool.{Bool, true, false, cond, not, _&&_, _||_}
 use mathlib.Core.List.{List, [], _∷_, _++_, append-nil}
 use native.Mathlib.Omega.{arith}
-use lib.Dec.{ltb}
-use borrow.Author.Tests.{ltb-false, not-true, not-false}
+use lib.Dec.{leb, ltb, eqb}
+use borrow.Author.Tests.{leb-true, ltb-false, eq-eqb, not-true, not-false}
 use Rattle.octets.proofs.Runs.{false-true}
-use Rattle.refusal.specs.Answer.{Refusal, accepted, refused, Test, answer, passes}
+use Rattle.refusal.specs.Answer.{Refusal, Answer, accepted, refused, Test, answer, passes}
+use Rattle.refusal.specs.Refusals.{numberOf}
 
 pub not-accepted : {A : Type 0} {why : Refusal} {x : A} → refused why ≡ accepted x → ⊥
 not-accepted e = let z : _≡_ {A = ℕ} 0 1 = cc in omega arith
@@ -92,18 +93,48 @@ answer-before (r ∷ rs) ts us x y why e f = by (r .given) (answer-before rs ts 
     by true rest e f = cc
     by false rest e f = rest e f
 
--- none of them gives this refusal
-abbrev pub Other : Refusal → List Test → Type 0
-Other why [] = Unit {0}
-Other why (t ∷ ts) = (t .refusal ≡ why → ⊥) × Other why ts
+-- has one of them this refusal? It is told by its number
+abbrev pub among : Refusal → List Test → Bool
+among why [] = false
+among why (t ∷ ts) = eqb (numberOf (t .refusal)) (numberOf why) || among why ts
 
--- so where it is given, a later one gives it
-pub answer-later : {A : Type 0} (rs ts : List Test) (x : A) (why : Refusal) → Other why rs → answer (rs ++ ts) x ≡ refused why
+-- where none has it and it is given, a later one gives it
+pub answer-later : {A : Type 0} (rs ts : List Test) (x : A) (why : Refusal) → among why rs ≡ false → answer (rs ++ ts) x ≡ refused why
     → (passes rs ≡ true) × (answer ts x ≡ refused why)
 answer-later [] ts x why o e = (refl, e)
-answer-later (r ∷ rs) ts x why o e = by (r .given) (answer-later rs ts x why (o .1)) e
+answer-later {A} (r ∷ rs) ts x why o e = by (eqb (numberOf (r .refusal)) (numberOf why)) refl (r .given) (answer-later rs ts x why) o e
   where
-    by : (b : Bool) → (answer (rs ++ ts) x ≡ refused why → (passes rs ≡ true) × (answer ts x ≡ refused why))
-        → cond b (refused (r .refusal)) (answer (rs ++ ts) x) ≡ refused why → (not b && passes rs ≡ true) × (answer ts x ≡ refused why)
-    by true rest f = absurd (o .0 cc)
-    by false rest f = rest f
+    other : eqb (numberOf (r .refusal)) (numberOf why) ≡ false → _≡_ {A = Answer A} (refused (r .refusal)) (refused why) → ⊥
+    other h f = let same : r .refusal ≡ why = cc in false-true (sym h ∙ eq-eqb _ _ (ap numberOf same))
+
+    by : (q : Bool) → eqb (numberOf (r .refusal)) (numberOf why) ≡ q → (b : Bool)
+        → (among why rs ≡ false → answer (rs ++ ts) x ≡ refused why → (passes rs ≡ true) × (answer ts x ≡ refused why))
+        → q || among why rs ≡ false → cond b (refused (r .refusal)) (answer (rs ++ ts) x) ≡ refused why
+        → (not b && passes rs ≡ true) × (answer ts x ≡ refused why)
+    by true h b rest o f = absurd (false-true (sym o))
+    by false h true rest o f = absurd (other h f)
+    by false h false rest o f = rest o f
+
+-- a refusal that none has is not given
+pub not-among : {A : Type 0} (rs : List Test) (x : A) (why : Refusal) → among why rs ≡ false → answer rs x ≡ refused why → ⊥
+not-among rs x why o e =
+    not-accepted (sym (answer-later rs [] x why o (ap (λ (ts : List Test). answer ts x) (append-nil rs) ∙ e) .1))
+
+-- ---- by number
+
+-- the numbers of their refusals are at most k
+abbrev pub within : ℕ → List Test → Bool
+within k [] = true
+within k (t ∷ ts) = leb (numberOf (t .refusal)) k && within k ts
+
+-- so is that of the one that is given
+pub number-within : {A : Type 0} (k : ℕ) (ts : List Test) (x : A) (why : Refusal) → within k ts ≡ true → answer ts x ≡ refused why → numberOf why ≤ k
+number-within k [] x why o e = absurd (not-accepted (sym e))
+number-within {A} k (t ∷ ts) x why o e =
+    let both = and-true (leb (numberOf (t .refusal)) k) (within k ts) o in
+    by (t .given) (leb-true _ _ (both .0)) (number-within k ts x why (both .1)) e
+  where
+    by : (b : Bool) → numberOf (t .refusal) ≤ k → (answer ts x ≡ refused why → numberOf why ≤ k)
+        → _≡_ {A = Answer A} (cond b (refused (t .refusal)) (answer ts x)) (refused why) → numberOf why ≤ k
+    by true h rest f = let same : t .refusal ≡ why = cc in rw (← same) h
+    by false h rest f = rest f

@@ -1,7 +1,7 @@
 -- The number and the amount of each refusal (docs/FORMAT.md, 7.1). One that has no amount has 0.
 use Prim.Native.Nat.{ℕ}
 use Rattle.refusal.specs.Answer.{Refusal}
-use Rattle.refusal.specs.declared.Refusal.the-variants.{Incomplete, NotVersion, BadLength, NotTiled, TooDeep, NoRecords, BadDepth, BadHeader, BadTable, TooLong, NoRoom}
+use Rattle.refusal.specs.declared.Refusal.the-variants.{Incomplete, NotVersion, BadLength, NotTiled, TooDeep, NoRecords, BadDepth, BadHeader, BadTable, TooLong, NoRoom, BadEdition, BadExponent}
 
 abbrev pub numberOf : Refusal → ℕ
 numberOf (Incomplete n) = 1
@@ -15,6 +15,8 @@ numberOf BadHeader = 8
 numberOf (BadTable n) = 9
 numberOf TooLong = 10
 numberOf (NoRoom n) = 11
+numberOf BadEdition = 12
+numberOf BadExponent = 13
 
 abbrev pub amountOf : Refusal → ℕ
 amountOf (Incomplete n) = n
@@ -28,3 +30,5 @@ amountOf BadHeader = 0
 amountOf (BadTable n) = n
 amountOf TooLong = 0
 amountOf (NoRoom n) = n
+amountOf BadEdition = 0
+amountOf BadExponent = 0

@@ -20,6 +20,8 @@ pub enum Refusal {
     TooLong,
     /// So many bytes are needed.
     NoRoom(usize),
+    BadEdition,
+    BadExponent,
 }
 
 impl Refusal {
@@ -39,6 +41,8 @@ impl Refusal {
             Refusal::BadTable(_) => 9,
             Refusal::TooLong => 10,
             Refusal::NoRoom(_) => 11,
+            Refusal::BadEdition => 12,
+            Refusal::BadExponent => 13,
         }
     }
 
@@ -58,6 +62,8 @@ impl Refusal {
             Refusal::BadTable(n) => n,
             Refusal::TooLong => 0,
             Refusal::NoRoom(n) => n,
+            Refusal::BadEdition => 0,
+            Refusal::BadExponent => 0,
         }
     }
 }

@@ -6,13 +6,10 @@ use mathlib.Core.Bool.{Bool, true, false, not, _&&_}
 use mathlib.Core.Option.{Option, none, some}
 use mathlib.Core.Logic.{inl, inr}
 use mathlib.Core.List.{List, [], _∷_, _++_, map}
-use lib.Dec.{eqb}
 use Rattle.octets.specs.Run.{tree, tiles}
-use Rattle.octets.proofs.Runs.{false-true}
 use Rattle.refusal.specs.Answer.{Refusal, Answer, accepted, refused, Test, refuse, answer, passes}
-use Rattle.refusal.specs.Refusals.{numberOf}
 use Rattle.refusal.specs.declared.Refusal.the-variants.{NotTiled}
-use Rattle.refusal.proofs.Answers.{not-accepted, and-true, passed, passes-append, answer-past, answer-before, Other, answer-later}
+use Rattle.refusal.proofs.Answers.{not-accepted, and-true, passed, passes-append, answer-past, answer-before, among, answer-later, not-among}
 use Rattle.refusal.proofs.Tests.{decide}
 use Rattle.record.specs.Outline.{Outline, outlineOf}
 use Rattle.record.specs.Table.{ofDepth}
@@ -55,13 +52,9 @@ stuck-failing (some o) b e = refl
 
 -- ---- NotTiled is said by one test alone
 
--- a refusal with another number is another
-another : (r : Refusal) → eqb (numberOf r) 4 ≡ false → r ≡ NotTiled → ⊥
-another r h e = false-true (sym h ∙ ap (λ (x : Refusal). eqb (numberOf x) 4) e)
-
-header-another : (s : List ℕ) → Other NotTiled (headerRefusals s)
+not-the-headers : (s : List ℕ) → among NotTiled (headerRefusals s) ≡ false
 unfolding headerRefusals
-header-another s = (another _ refl, (another _ refl, (another _ refl, (another _ refl, (another _ refl, (another _ refl, tt))))))
+not-the-headers s = refl
 
 module _ (code : ℕ) (s : List ℕ) where
   -- the first AVP with the code before the end or the failing place
@@ -100,13 +93,13 @@ module _ (code : ℕ) (s : List ℕ) where
   sought-failing D limit room e =
       let t = tree (avps D) (messageBody s) in
       let fit = fitRefusals limit room t (runRecords D headerSize (messageBody s)) in
-      let past = answer-later (limitRefusals limit) (headerRefusals s ++ (tileRefusals t ++ fit)) (messageOf D s) NotTiled (another _ refl, tt) e .1 in
-      let body = answer-later (headerRefusals s) (tileRefusals t ++ fit) (messageOf D s) NotTiled (header-another s) past in
+      let past = answer-later (limitRefusals limit) (headerRefusals s ++ (tileRefusals t ++ fit)) (messageOf D s) NotTiled refl e .1 in
+      let body = answer-later (headerRefusals s) (tileRefusals t ++ fit) (messageOf D s) NotTiled (not-the-headers s) past in
       sought-past (body .0)
       ∙ elim (decide (tiles t)) [
         | inl tiled ↦
             absurd
-            (not-accepted (sym (answer-later fit [] (messageOf D s) NotTiled (another _ refl, (another _ refl, tt)) (rw tiled at (body .1)) .1)))
+            (not-among fit (messageOf D s) NotTiled refl (rw tiled at (body .1)))
         | inr fails ↦ stuck-failing first (tiling (messageBody s)) (sym (tiles-any D (messageBody s)) ∙ fails)
       ]
 
