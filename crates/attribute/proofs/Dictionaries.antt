@@ -11,7 +11,7 @@ use lib.Dec.{leb, ltb, eqb}
 use borrow.Author.Tests.{ne-eqb, ltb-false, le-leb}
 use Rattle.rfc6733.specs.Value.{Value, oneOf}
 use Rattle.record.specs.Kinds.{unhandled, time}
-use Rattle.rfc6733.specs.Dictionary.{Dictionary, Row, kindIn, baseAvps, sawpAvps, familyAddress, bareAddress, sawp, rfc}
+use Rattle.rfc6733.specs.Dictionary.{Dictionary, Row, kindIn, baseAvps, sawpAvps, byRows, familyAddress, bareAddress, sawp, rfc}
 use Rattle.rfc6733.proofs.Listed.{one-of-append, passed}
 use Rattle.attribute.specs.Attributes.{dictionary, kindTable}
 use Rattle.attribute.specs.ByTable.{known, kindBy, addressBy, dictionaryBy, besideTable}
@@ -24,7 +24,7 @@ use Rattle.attribute.proofs.Tables.{table-at, same-by-list}
 
 -- ---- off the codes of a table
 
-abbrev codesIn : List Row → List ℕ
+abbrev pub codesIn : List Row → List ℕ
 codesIn = map (λ r. r .code)
 
 abbrev codesAmong : List Codes → List ℕ
@@ -41,7 +41,7 @@ off-codes (r ∷ rs) c h = passed (oneOf c (r .codes)) _ _ _ _ (rw one-of-append
 
 -- ---- past the greatest code
 
-abbrev greatest : List ℕ → ℕ
+abbrev pub greatest : List ℕ → ℕ
 greatest [] = 0
 greatest (c ∷ cs) = max c (greatest cs)
 
@@ -49,13 +49,13 @@ not-listed : (cs : List ℕ) (c : ℕ) → greatest cs < c → oneOf c cs ≡ fa
 not-listed [] c h = refl
 not-listed (x ∷ cs) c h = rw (ne-eqb c x (λ e. omega arith)) (not-listed cs c (omega arith))
 
--- so the first 512 entries are the table
-entry-of : (rs : List Row) → greatest (codesIn rs) < 512 → (c : ℕ) → getD (table (kindIn rs) 512) c unhandled ≡ kindIn rs c
-entry-of rs within c = table-at (kindIn rs) 512 c unhandled ∙ by (ltb c 512) refl
+-- so the first n entries are the table, where n is past its codes
+entry-of : (rs : List Row) (n : ℕ) → greatest (codesIn rs) < n → (c : ℕ) → getD (table (kindIn rs) n) c unhandled ≡ kindIn rs c
+entry-of rs n within c = table-at (kindIn rs) n c unhandled ∙ by (ltb c n) refl
   where
-    by : (b : Bool) → ltb c 512 ≡ b → cond b (kindIn rs c) unhandled ≡ kindIn rs c
+    by : (b : Bool) → ltb c n ≡ b → cond b (kindIn rs c) unhandled ≡ kindIn rs c
     by true t = refl
-    by false t = let past = ltb-false c 512 t in rw (off-rows rs c (not-listed (codesIn rs) c (omega arith)))
+    by false t = let past = ltb-false c n t in rw (off-rows rs c (not-listed (codesIn rs) c (omega arith)))
 
 -- ---- the readings beside one another, and beside the table of docs/FORMAT.md
 
@@ -68,7 +68,7 @@ document-kinds c =
 
 -- ---- the greatest kind
 
-abbrev greatestKind : List Row → ℕ
+abbrev pub greatestKind : List Row → ℕ
 greatestKind rs = greatest (map (λ r. r .kind) rs)
 
 kind-within : (rs : List Row) (c : ℕ) → kindIn rs c ≤ greatestKind rs
@@ -93,20 +93,25 @@ kind-is-known d ks c v = by (not (d .vendors) || eqb v 0) (leb (getD ks c unhand
     by false q e = refl
 
 -- the table of a list of rows, each of a kind
-listed-kind : (rs : List Row) → greatest (codesIn rs) < 512 → greatestKind rs ≤ time → (c : ℕ)
-    → known (getD (table (kindIn rs) 512) c unhandled) ≡ kindIn rs c
-listed-kind rs codes kinds c =
+listed-kind : (rs : List Row) (n : ℕ) → greatest (codesIn rs) < n → greatestKind rs ≤ time → (c : ℕ)
+    → known (getD (table (kindIn rs) n) c unhandled) ≡ kindIn rs c
+listed-kind rs n codes kinds c =
     let within : kindIn rs c ≤ time = omega (arith, kind-within rs c) in
-    rw (entry-of rs codes c, le-leb _ _ within)
+    rw (entry-of rs n codes c, le-leb _ _ within)
 
 same-kinds : {k k′ : ℕ → ℕ → ℕ} (asAddress : List ℕ → Value) → ((c v : ℕ) → k c v ≡ k′ c v)
     → _≡_ {A = Dictionary} (record { kind = k; asAddress = asAddress }) (record { kind = k′; asAddress = asAddress })
 same-kinds asAddress same = ap (λ (k : ℕ → ℕ → ℕ). record { kind = k; asAddress = asAddress }) (fun-ext (λ c. fun-ext (same c)))
 
+-- the table of some rows, with what the RFC reading has beside it, is the dictionary of those rows
+pub rows-by-table : (rs : List Row) (n : ℕ) → greatest (codesIn rs) < n → greatestKind rs ≤ time
+    → dictionaryBy (besideTable Rfc) (table (kindIn rs) n) ≡ byRows rs
+unfolding dictionaryBy kindBy addressBy besideTable
+rows-by-table rs n codes kinds =
+    same-kinds familyAddress (λ c v. ap (λ (k : ℕ). cond (eqb v 0) k unhandled) (listed-kind rs n codes kinds c))
+
 -- the table of a reading, with what is beside it, is the reading's dictionary
 pub dictionary-by-table : (r : Reading) → dictionaryBy (besideTable r) (kindTable r) ≡ dictionary r
 unfolding dictionaryBy kindBy addressBy besideTable kindTable dictionary sawp rfc
-dictionary-by-table Sawp = same-kinds bareAddress (λ c v. listed-kind sawpAvps (omega arith) (omega arith) c)
-dictionary-by-table Rfc =
-    same-kinds familyAddress
-    (λ c v. ap (λ (k : ℕ). cond (eqb v 0) k unhandled) (listed-kind baseAvps (omega arith) (omega arith) c))
+dictionary-by-table Sawp = same-kinds bareAddress (λ c v. listed-kind sawpAvps 512 (omega arith) (omega arith) c)
+dictionary-by-table Rfc = rows-by-table baseAvps 512 (omega arith) (omega arith)

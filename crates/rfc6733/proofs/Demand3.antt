@@ -1,4 +1,4 @@
--- Demand 3. For every accepted message, in any dictionary and so in either reading, six times the headers tried is at most the
+-- Demand 3. For every accepted message, in any dictionary and so in each reading and edition, six times the headers tried is at most the
 -- length less 20 (`Tried`); and messages of 20 + 12k bytes reach that for every k whose length fits 24 bits: k failing groups of 12
 -- bytes try two headers each and have a record each, in every dictionary that takes Failed-AVP as Grouped. The tree of such a run is
 -- a chain of k groups, so all counts are inductions over k.
@@ -11,9 +11,11 @@ use Rattle.refusal.specs.Answer.{accepted}
 use Rattle.rfc6733.specs.Header.{messageLength}
 use Rattle.rfc6733.specs.Avp.{mostDepth, headSize, vendor, dataSize, padding, avpSize, payload, avpRefusals, complete}
 use Rattle.rfc6733.specs.Dictionary.{Dictionary, sawp, rfc}
+use Rattle.rfc6733.specs.CreditControl.{rfc4006, rfc8506, editionOf}
 use Rattle.rfc6733.specs.Decoder.{Message, runCounts, messageBody, messageOf, decoded, allowed, runRecords, messageRefusals}
 use Rattle.rfc6733.specs.Writer.{most24}
 use Rattle.rfc6733.proofs.Accepted.{when-accepted}
+use Rattle.rfc6733.proofs.Editions.{each-edition}
 use Rattle.rfc6733.proofs.Tried.{tried-bound}
 use mathlib.Core.Bool.{true}
 use borrow.Author.Tests.{eq-eqb}
@@ -116,7 +118,7 @@ headers-tried D limit room s m e =
     let l = ap (λ (x : Message). x .counts .length) (a .message-is) in
     omega (arith, body-length s)
 
--- the best such bound, in either reading
+-- the best such bound, in either reading and in both editions
 module _ (limit room k : ℕ) (low : 2 ≤ limit) (high : limit ≤ mostDepth) (fits : k ≤ room) (short : 20 + 12 * k ≤ most24) where
   pub best-sawp : Reaches sawp limit room k
   unfolding sawp
@@ -125,3 +127,14 @@ module _ (limit room k : ℕ) (low : 2 ≤ limit) (high : limit ≤ mostDepth) (
   pub best-rfc : Reaches rfc limit room k
   unfolding rfc
   best-rfc = reached rfc refl limit room k low high fits short
+
+  best-4006 : Reaches rfc4006 limit room k
+  unfolding rfc4006
+  best-4006 = reached rfc4006 refl limit room k low high fits short
+
+  best-8506 : Reaches rfc8506 limit room k
+  unfolding rfc8506
+  best-8506 = reached rfc8506 refl limit room k low high fits short
+
+  pub best-edition : (n : ℕ) → Reaches (editionOf n) limit room k
+  best-edition = each-edition (λ D. Reaches D limit room k) best-4006 best-8506 best-rfc

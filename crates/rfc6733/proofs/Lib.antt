@@ -9,6 +9,8 @@ pub mod Alone
 pub mod Tried
 pub mod Messages
 pub mod Decoded
+pub mod Editions
+pub mod Numbers
 pub mod Accepted
 pub mod Sought
 pub mod FirstRecord

@@ -1,4 +1,4 @@
--- A run's error flags are below 16 in both readings: each flag is, and joining keeps it so. And what is read of bytes is a number
+-- A run's error flags are below 16 in both readings and both editions: each flag is, and joining keeps it so. And what is read of bytes is a number
 -- of eight bytes at most. For any dictionary this asks only that it is so of an Address.
 use Prim.Native.Nat.{ℕ, _^_, _≤_, _<_}
 use mathlib.Core.Bool.{Bool, true, false, cond, not}
@@ -15,7 +15,9 @@ use Rattle.rfc6733.specs.Avp.{flags, avpReserved, payload, pads}
 use Rattle.rfc6733.specs.Value.{Value, value, fixed, text, dataAs}
 use Rattle.record.specs.Kinds.{unhandled}
 use Rattle.rfc6733.specs.Dictionary.{Dictionary, familyAddress, bareAddress, rfc, sawp}
+use Rattle.rfc6733.specs.CreditControl.{rfc4006, rfc8506, editionOf}
 use Rattle.rfc6733.specs.Records.{avpKind, valueOf, ownErrors, errors}
+use Rattle.rfc6733.proofs.Editions.{each-edition}
 use Rattle.refusal.proofs.Tests.{decide}
 use Rattle.flags.proofs.Joins.{join-small, flag-small}
 
@@ -88,3 +90,8 @@ sawp-errors-small = errors-small sawp bare-small
 pub rfc-errors-small : (t : Tree) → errors rfc t < 16
 unfolding rfc
 rfc-errors-small = errors-small rfc family-small
+
+pub edition-errors-small : (n : ℕ) (t : Tree) → errors (editionOf n) t < 16
+unfolding rfc4006 rfc8506
+edition-errors-small =
+    each-edition (λ D. (t : Tree) → errors D t < 16) (errors-small rfc4006 family-small) (errors-small rfc8506 family-small) rfc-errors-small

@@ -79,9 +79,12 @@ messageBody s = take (messageLength s - headerSize) (drop headerSize s)
 unfoldable pub messageRecords : Dictionary → List ℕ → List Record
 messageRecords D s = runRecords D headerSize (messageBody s)
 
+-- how it is refused for its bytes, the limit being allowed
+abbrev pub bytesRefusals : Dictionary → ℕ → ℕ → List ℕ → List Test
+bytesRefusals D limit room s = headerRefusals s ++ runRefusals D limit room headerSize (messageBody s)
+
 unfoldable pub messageRefusals : Dictionary → ℕ → ℕ → List ℕ → List Test
-messageRefusals D limit room s =
-    limitRefusals limit ++ (headerRefusals s ++ runRefusals D limit room headerSize (messageBody s))
+messageRefusals D limit room s = limitRefusals limit ++ bytesRefusals D limit room s
 
 -- what its acceptance returns: the flags join the header's and the top level's
 unfoldable pub messageOf : Dictionary → List ℕ → Message
@@ -107,9 +110,11 @@ decoded D limit room s = answer (messageRefusals D limit room s) (messageOf D s)
 unfoldable pub aloneRecords : Dictionary → List ℕ → List Record
 aloneRecords D s = runRecords D 0 (item (avps D) s)
 
+abbrev pub aloneBytesRefusals : Dictionary → ℕ → ℕ → List ℕ → List Test
+aloneBytesRefusals D limit room s = avpRefusals s ++ fitRefusals limit room (tree (avps D) (item (avps D) s)) (aloneRecords D s)
+
 unfoldable pub aloneRefusals : Dictionary → ℕ → ℕ → List ℕ → List Test
-aloneRefusals D limit room s =
-    limitRefusals limit ++ (avpRefusals s ++ fitRefusals limit room (tree (avps D) (item (avps D) s)) (aloneRecords D s))
+aloneRefusals D limit room s = limitRefusals limit ++ aloneBytesRefusals D limit room s
 
 -- its padded size is the length
 unfoldable pub aloneOf : Dictionary → List ℕ → Counts

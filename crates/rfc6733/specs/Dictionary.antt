@@ -103,9 +103,13 @@ bareAddress s =
     (cond (eqb (length s) 16) (value address 0 0)
     (value unhandled dataLength 0))
 
--- RFC 6733, section 4.1: a vendor's codes are its own, so the table says nothing of them. Departure D6: vendor 0 is the IETF's
+-- The dictionary of a table of the IETF's. RFC 6733, section 4.1: a vendor's codes are its own, so the table says nothing of them.
+-- Departure D6: vendor 0 is the IETF's
+abbrev pub byRows : List Row → Dictionary
+byRows rs = record { kind = λ c v. cond (eqb v 0) (kindIn rs c) unhandled; asAddress = familyAddress }
+
 unfoldable pub rfc : Dictionary
-rfc = record { kind = λ c v. cond (eqb v 0) (kindIn baseAvps c) unhandled; asAddress = familyAddress }
+rfc = byRows baseAvps
 
 -- Departure S3: the vendor doesn't count
 unfoldable pub sawp : Dictionary

@@ -3,9 +3,11 @@ pub mod Avp
 pub mod Value
 pub mod Signed
 pub mod Dictionary
+pub mod CreditControl
 pub mod Records
 pub mod Entered
 pub mod Decoder
+pub mod Editions
 pub mod Search
 pub mod Writer
 pub mod Dump
