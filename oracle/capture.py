@@ -16,6 +16,9 @@ OWN = {"diameter.avp." + name for name in ("code", "flags", "len", "vendorId", "
 FIELDS = ("version", "length", "flags", "cmd.code", "applicationId", "hopbyhopid", "endtoendid")
 RENAMED = {"": "Grouped", "IPAddress": "Address"}
 TEXT = ("UTF8String", "DiameterIdentity", "DiameterURI")
+ANY_LENGTH = ("Grouped", "OctetString", "IPFilterRule", *TEXT)
+# the base protocol, and credit-control, which the first names as a part of it
+DICTIONARIES = ("dictionary.xml", "chargecontrol.xml")
 TYPED = re.compile(r'<avp\s([^>]*)>\s*<(?:grouped|type type-name="([^"]*)")')
 
 
@@ -58,7 +61,7 @@ def tree_of(packet):
 def types(codes):
     """The type of each code in tshark's own dictionary, without a vendor."""
     folder = re.search(r"^Global configuration:\s*(.*)$", tshark("-G", "folders").decode(), re.MULTILINE)[1]
-    text = Path(folder, "diameter", "dictionary.xml").read_text("utf-8")
+    text = "".join(Path(folder, "diameter", name).read_text("utf-8") for name in DICTIONARIES)
     found = {}
     for words, name in TYPED.findall(re.sub(r"<!--.*?-->", "", text, flags=re.DOTALL)):
         code = int(re.search(r'code="(\d+)"', words)[1])
@@ -68,7 +71,7 @@ def types(codes):
 
 
 class Avp:
-    """An AVP as tshark shows it; `type` is None if the code isn't one of the base protocol's."""
+    """An AVP as tshark shows it; `type` is None if the code isn't one of those whose types are known."""
 
     def __init__(self, field, start, depth, types):
         own = {part.get("name"): part for part in field}
@@ -99,7 +102,7 @@ class Avp:
 
     def misfits(self):
         """Does tshark say that the data don't have their type's length?"""
-        if self.type in (None, "Grouped", "OctetString", *TEXT):
+        if self.type is None or self.type in ANY_LENGTH:
             return False
         return has(self.field, "diameter.avp.invalid-len") or has(self.field, "diameter.avp.no_data")
 

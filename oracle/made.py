@@ -1,5 +1,5 @@
-"""Makes cases from a seed, a line each as in cases.txt: python3 oracle/made.py SEED COUNT, of the RFC reading, or, with `search` behind it, searches and
-steps, which know no reading.
+"""Makes cases from a seed, a line each as in cases.txt: python3 oracle/made.py SEED COUNT, of the RFC reading, or, with a word behind it, others: `search` for
+searches and steps, which know no reading, `edition` for messages and AVPs by an edition, `compare` for comparisons.
 
 Messages are laid out as RFC 6733 sections 3 and 4 say, with the codes of docs/FORMAT.md and a few others, text at the edges of RFC 3629's ranges, and
 Address data of several families. Some are then damaged: a length, a byte, the end.
@@ -7,10 +7,24 @@ Address data of several families. Some are then damaged: a length, a byte, the e
 import random
 import sys
 
-from model import KIND
+from model import EDITIONS, KIND
 
-CODES = [*sorted(KIND), 283, 2, 511, 512, 70000]
-GROUPS = [code for code in KIND if KIND[code] == 8]
+# of Value-Digits, 64 bits with a sign
+LARGEST = 2**63 - 1
+
+
+class Codes:
+    """Kinds by code, all codes that an AVP is given, and those of groups."""
+
+    def __init__(self, kinds, *others):
+        self.kinds = kinds
+        self.all = [*sorted(kinds), *others]
+        self.groups = [code for code in kinds if kinds[code] == 8]
+
+
+BASE = Codes(KIND, 283, 2, 511, 512, 70000)
+# Both editions get the codes of the larger one, those beside its blocks, and more often those whose kind no other code has.
+CREDIT = Codes({**KIND, **EDITIONS[8506]}, 283, 2, 11, 410, 462, 509, 511, 512, 652, 670, 70000, *(429, 447, 666, 451) * 8)
 TEXTS = [
     bytes.fromhex(text)
     for text in (
@@ -19,8 +33,8 @@ TEXTS = [
 ]
 
 
-def data(r, code):
-    kind = KIND.get(code, 0)
+def data(r, codes, code):
+    kind = codes.kinds.get(code, 0)
     if code == 283 or kind in (10, 11, 12):
         return b"".join(r.choices(TEXTS, k=r.randrange(4)))
     if kind == 13:
@@ -29,11 +43,11 @@ def data(r, code):
     return r.randbytes(r.choice((0, 3, 4, 4, 4, 5, 7, 8, 9)))
 
 
-def avp(r, depth):
+def avp(r, codes, depth):
     group = depth < 7 and r.random() < 0.25
-    code = r.choice(GROUPS if group else CODES)
+    code = r.choice(codes.groups if group else codes.all)
     flags = r.choice((0, 0x40, 0x80, 0xC0, 0x20, r.randrange(256)))
-    body = run(r, depth + 1) if group else data(r, code)
+    body = run(r, codes, depth + 1) if group else data(r, codes, code)
     vendor = r.choice((0, 1, 10415)).to_bytes(4, "big") if flags & 0x80 else b""
     length = 8 + len(vendor) + len(body)
     padding = r.choice((bytes(3), bytes(3), r.randbytes(3)))[: -length % 4]
@@ -42,12 +56,12 @@ def avp(r, depth):
     return code.to_bytes(4, "big") + bytes([flags]) + length.to_bytes(3, "big") + vendor + body + padding
 
 
-def run(r, depth):
-    return b"".join(avp(r, depth) for _ in range(r.randrange(4)))
+def run(r, codes, depth):
+    return b"".join(avp(r, codes, depth) for _ in range(r.randrange(4)))
 
 
-def message(r):
-    avps = run(r, 1)
+def message(r, codes):
+    avps = run(r, codes, 1)
     length = 20 + len(avps) + (r.choice((-4, 1, 4)) if r.random() < 0.05 else 0)
     flags = r.choice((0, 0x80, 0xC0, r.randrange(256)))
     return bytes([1]) + length.to_bytes(3, "big") + bytes([flags]) + r.randbytes(15) + avps
@@ -60,30 +74,78 @@ def damaged(r, wire):
     return wire + (b"\x01" if r.random() < 0.05 else b"")
 
 
+def wire(r, codes):
+    """Is it a message or one AVP, its bytes, a limit and the room."""
+    whole = r.choice((True, True, True, False))
+    case = damaged(r, message(r, codes) if whole else avp(r, codes, 1))
+    limit = r.choice((64, 64, 64, 7, 3, 2, 1, 0, 65))
+    return whole, case.hex() or "-", limit, r.randrange(13)
+
+
 def read(r):
     """A message or one AVP to be decoded."""
-    function = r.choice(("message", "message", "message", "avp"))
-    case = damaged(r, message(r) if function == "message" else avp(r, 1))
-    limit = r.choice((64, 64, 64, 7, 3, 2, 1, 0, 65))
-    return function, "rfc", limit, r.randrange(13), case.hex() or "-"
+    whole, case, limit, room = wire(r, BASE)
+    return "message" if whole else "avp", "rfc", limit, room, case
+
+
+def read_by(r):
+    """The same by an edition, now and then by one that there is not."""
+    whole, case, limit, room = wire(r, CREDIT)
+    edition = r.choice((4006, 8506)) if r.random() < 0.95 else r.choice((0, 1, 4005, 4007, 8505, 8507, 69542, 74042, 2**32 - 1))
+    return "message-by" if whole else "avp-by", edition, limit, room, case
 
 
 def search(r):
     """A code, most often one that stands somewhere in the message, and the message; or steps over it."""
-    wire = damaged(r, message(r))
+    case = damaged(r, message(r, BASE))
     if r.random() < 0.3:
-        return "steps", "sawp", 0, 0, wire.hex() or "-"
-    words = [wire[at : at + 4] for at in range(20, len(wire) - 3, 4)]
+        return "steps", "sawp", 0, 0, case.hex() or "-"
+    words = [case[at : at + 4] for at in range(20, len(case) - 3, 4)]
     codes = [word for word in words if word[:2] == b"\0\0"] if r.random() < 0.9 else []
-    code = r.choice(codes or [r.choice(CODES).to_bytes(4, "big")])
-    return "find", "sawp", 0, 0, (code + wire).hex()
+    code = r.choice(codes or [r.choice(BASE.all).to_bytes(4, "big")])
+    return "find", "sawp", 0, 0, (code + case).hex()
+
+
+def digits(r, most):
+    """A number of any size up to one, either sign."""
+    return r.choice((-1, 1)) * r.randint(0, min(most, 10 ** r.randint(0, 19)))
+
+
+def apart(r):
+    """Two Unit-Values that may have their digits in common, their first digits, or nothing; the exponents near each other, or anywhere."""
+    one, zeros = digits(r, LARGEST), r.choice((0, 0, 1, 2, r.randint(0, 18)))
+    other = r.choice((one, -one, -LARGEST - 1, LARGEST, one // 10**zeros, digits(r, LARGEST)))
+    exponent = r.randint(-19, 19)
+    return one, exponent, other, r.choice((exponent + zeros, exponent - zeros, exponent + r.randint(-2, 2), r.randint(-19, 19)))
+
+
+def moved(r):
+    """The same number twice, zeros moved from its digits into its exponent, and one of the two perhaps off by one."""
+    zeros = r.randint(0, 18)
+    few, exponent = digits(r, LARGEST // 10**zeros), r.randint(-18, 18 - zeros)
+    many = few * 10**zeros + r.choice((0, 0, -1, 1))
+    return few + r.choice((0, 0, 0, 0, -1, 1)), exponent + zeros, many, exponent
+
+
+def fitting(number):
+    return max(-LARGEST - 1, min(LARGEST, number))
+
+
+def comparison(r):
+    one, exponent, other, other_exponent = r.choice((apart, moved))(r)
+    pairs = [(fitting(one), exponent), (fitting(other), other_exponent)]
+    r.shuffle(pairs)
+    return "compare", *pairs[0], *pairs[1]
+
+
+MAKERS = {"read": read, "search": search, "edition": read_by, "compare": comparison}
 
 
 def main():
-    r = random.Random(int(sys.argv[1]))
-    make = search if sys.argv[3:] == ["search"] else read
-    for _ in range(int(sys.argv[2])):
-        print(*make(r))
+    seed, count, sort = (*sys.argv[1:], "read")[:3]
+    r = random.Random(int(seed))
+    for _ in range(int(count)):
+        print(*MAKERS[sort](r))
 
 
 if __name__ == "__main__":

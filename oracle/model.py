@@ -1,25 +1,32 @@
-"""A model of the format (docs/FORMAT.md), written from its text and from RFC 6733 and RFC 3629, not from our code.
+"""A model of the format (docs/FORMAT.md), written from its text and from RFC 6733, RFC 3629, RFC 4006 and RFC 8506, not from our code.
 
-It answers a case as docs/FORMAT.md says: message, header alone or one AVP alone, in either reading, a table to be written, or a search. It is slow and
-plain on purpose: a search decodes the whole message and looks for the record. `oracle/run replay` makes with it frames that crates/replay reads and answers that it must write:
+It answers a case as docs/FORMAT.md says: message, header alone or one AVP alone, in either reading, message or one AVP alone by an edition, a table to be
+written, a search, or a comparison. It is slow and plain on purpose: a search decodes the whole message and looks for the record, and a comparison works
+with fractions. `oracle/run replay` makes with it frames that crates/replay reads and answers that it must write:
 
     python3 oracle/model.py frames < oracle/cases.txt
     python3 oracle/model.py answers < oracle/cases.txt
 
-A frame: function (0 message, 1 header alone, 2 one AVP, 3 a table to be written, 4 a search, 5 steps), reading (0 sawp, 1 RFC) and depth limit in a byte each, room in
-records in 2 bytes, length in 4, and the bytes. An answer: the number in a byte and the amount in 4; where the number is 0, the
-header's 20 bytes (not for one AVP), the flags in a byte, the number of records in 2, headers tried in 4, the length in 4; and always the
-whole store afterwards, which has 5 bytes more than its records take and was lent full of the byte A5. For a table the bytes are
-flags in 1, command code, application, hop-by-hop, end-to-end and the table's length in 4 each, the table and the bytes that its places point
-into; the store is the output, and an acceptance answers the total in 4 bytes. For a search the bytes are a code in 4 and a message; an acceptance
-answers 1 in a byte and bytes 0..15 and 19..22 of the record, or 0. For steps they are a message's own; the answer is, for each AVP of the top level, 1 in a
-byte, those 20 bytes and the place past it in 4, and then 0, or 2 at the failing place, and that place in 4. Neither changes the store.
+A frame: function (0 message, 1 header alone, 2 one AVP, 3 a table to be written, 4 a search, 5 steps, 6 a message by an edition, 7 one AVP by an edition,
+8 a comparison), reading (0 sawp, 1 RFC) and depth limit in a byte each, room in records in 2 bytes, length in 4, and the bytes. An answer: the number in
+a byte and the amount in 4; where the number is 0, the header's 20 bytes (not for one AVP), the flags in a byte, the number of records in 2, headers tried
+in 4, the length in 4; and always the whole store afterwards, which has 5 bytes more than its records take and was lent full of the byte A5.
+
+For a table the bytes are flags in 1, command code, application, hop-by-hop, end-to-end and the table's length in 4 each, the table and the bytes that its
+places point into; the store is the output, and an acceptance answers the total in 4 bytes. For a search the bytes are a code in 4 and a message; an
+acceptance answers 1 in a byte and bytes 0..15 and 19..22 of the record, or 0. For steps they are a message's own; the answer is, for each AVP of the top
+level, 1 in a byte, those 20 bytes and the place past it in 4, and then 0, or 2 at the failing place, and that place in 4. Neither changes the store.
+
+By an edition the bytes are the edition in 4 and the message or AVP, from whose first byte places count; the answer has the form of functions 0 and 2, and
+the reading means nothing. For a comparison they are two Unit-Values, each its Value-Digits in 8 and its Exponent in 4, signed; an acceptance answers 0
+less, 1 equal or 2 greater in a byte, and the store stays as it was lent.
 """
 import re
 import sys
+from fractions import Fraction
 
 INCOMPLETE, NOT_VERSION, BAD_LENGTH, NOT_TILED, TOO_DEEP, NO_RECORDS, BAD_DEPTH = 1, 2, 3, 4, 5, 6, 7
-BAD_HEADER, BAD_TABLE, TOO_LONG, NO_ROOM = 8, 9, 10, 11
+BAD_HEADER, BAD_TABLE, TOO_LONG, NO_ROOM, BAD_EDITION, BAD_EXPONENT = 8, 9, 10, 11, 12, 13
 DATA_VALUE, DATA_LENGTH, RESERVED, PADDING = 1, 2, 4, 8
 
 SAWP_KINDS = {
@@ -34,7 +41,33 @@ SAWP_KINDS = {
     13: [257],
     14: [55],
 }
-KIND = {code: kind for kind, codes in SAWP_KINDS.items() for code in codes}
+# RFC 4006, section 8. Restriction-Filter-Rule (438) is an IPFilterRule, which has no kind here.
+KINDS_4006 = {
+    1: [411, 438, 442, 460],
+    2: [429],
+    3: [447],
+    4: [415, 420, 425, 432, 439, 441, 448, 453],
+    5: [412, 414, 417, 419, 421],
+    8: [413, 423, 430, 431, 434, 437, 440, 443, 445, 446, 456, 457, 458],
+    9: [416, 418, 422, 426, 427, 428, 433, 436, 449, 450, 452, 454, 455, 459],
+    10: [424, 435, 444, 461],
+    14: [451],
+}
+# RFC 8506, section 8, which has the rows of RFC 4006 and these.
+KINDS_8506 = {
+    1: [654, 655, 656, 657, 658],
+    8: [653, 659, 665, 669],
+    10: [660, 661, 662, 663, 664, 667, 668],
+    13: [666],
+}
+
+
+def by_code(kinds):
+    return {code: kind for kind, codes in kinds.items() for code in codes}
+
+
+KIND = by_code(SAWP_KINDS)
+EDITIONS = {4006: by_code(KINDS_4006), 8506: {**by_code(KINDS_4006), **by_code(KINDS_8506)}}
 
 
 class Refused(Exception):
@@ -48,10 +81,13 @@ def be(data):
 
 
 def kind_of(reading, code, vendor):
+    """The kind in a reading, "sawp" or "rfc", or by an edition, whose codes come before those of the RFC reading."""
     if reading == "sawp":
         return KIND.get(code, 0)
     if vendor != 0:
         return 0
+    if code in EDITIONS.get(reading, ()):
+        return EDITIONS[reading][code]
     return {25: 1, 235: 0, 283: 11}.get(code, KIND.get(code, 0))
 
 
@@ -65,8 +101,8 @@ def well_formed(data):
 
 def value(reading, kind, data):
     """Kind, error flags and value field of data that are no group."""
-    if kind in (4, 9, 14, 5):
-        width = 8 if kind == 5 else 4
+    if kind in (2, 4, 9, 14, 3, 5):
+        width = 8 if kind in (3, 5) else 4
         if len(data) < width:
             return 0, DATA_LENGTH, 0
         return kind, DATA_LENGTH if len(data) > width else 0, be(data[:width])
@@ -196,6 +232,28 @@ def avp_alone(reading, limit, room, data):
     return flags, records, tried, size
 
 
+def by_edition(ask, edition, limit, room, data):
+    """A message or one AVP."""
+    limits(limit)
+    if edition not in EDITIONS:
+        raise Refused(BAD_EDITION)
+    return ask(edition, limit, room, data)
+
+
+def unit_value(data):
+    """Value-Digits and Exponent."""
+    return int.from_bytes(data[:8], "big", signed=True), int.from_bytes(data[8:12], "big", signed=True)
+
+
+def comparison(data):
+    """0 less, 1 equal, 2 greater."""
+    pairs = unit_value(data[:12]), unit_value(data[12:])
+    if not all(-18 <= exponent <= 18 for _, exponent in pairs):
+        raise Refused(BAD_EXPONENT)
+    one, other = (digits * Fraction(10) ** exponent for digits, exponent in pairs)
+    return 0 if one < other else 1 if one == other else 2
+
+
 def top_level(reading, data):
     """The outline and the place past it of each AVP at the top level, from byte 20 on and up to the failing place; and whether there is none."""
     tiles, records, _, _, _ = run(reading, data[20:], 20, 1)
@@ -278,12 +336,26 @@ def written(data, room):
 LENT, SPARE = 0xA5, 5
 # (00)*3 in a case is 000000
 REPEATED = re.compile(r"\(([0-9a-f]+)\)\*([0-9]+),?")
-FUNCTIONS, READINGS = ("message", "header", "avp", "table", "find", "steps"), ("sawp", "rfc")
+FUNCTIONS = ("message", "header", "avp", "table", "find", "steps", "message-by", "avp-by", "compare")
+READINGS = ("sawp", "rfc")
 
 
 def frame(function, reading, limit, room, data):
     head = bytes([FUNCTIONS.index(function), READINGS.index(reading), limit])
     return head + room.to_bytes(2, "big") + len(data).to_bytes(4, "big") + data
+
+
+def decoded(function, reading, limit, room, data):
+    """The header's bytes, where there is one, and what was read."""
+    if function == "header":
+        return data[:20], header_alone(data)
+    if function == "avp":
+        return b"", avp_alone(reading, limit, room, data)
+    if function == "avp-by":
+        return b"", by_edition(avp_alone, be(data[:4]), limit, room, data[4:])
+    if function == "message-by":
+        return data[4:24], by_edition(message, be(data[:4]), limit, room, data[4:])
+    return data[:20], message(reading, limit, room, data)
 
 
 def answer(function, reading, limit, room, data):
@@ -296,30 +368,40 @@ def answer(function, reading, limit, room, data):
             return bytes(5) + search(reading, data[:4], data[4:]) + bytes([LENT]) * size
         if function == "steps":
             return steps(reading, data) + bytes([LENT]) * size
-        if function == "header":
-            flags, records, tried, length = header_alone(data)
-        elif function == "avp":
-            flags, records, tried, length = avp_alone(reading, limit, room, data)
-        else:
-            flags, records, tried, length = message(reading, limit, room, data)
+        if function == "compare":
+            return bytes(5) + bytes([comparison(data)]) + bytes([LENT]) * size
+        head, (flags, records, tried, length) = decoded(function, reading, limit, room, data)
     except Refused as r:
         return bytes([r.number]) + r.amount.to_bytes(4, "big") + bytes([LENT]) * size
-    out = bytes(5) + (b"" if function == "avp" else data[:20]) + bytes([flags])
+    out = bytes(5) + head + bytes([flags])
     out += len(records).to_bytes(2, "big") + tried.to_bytes(4, "big") + length.to_bytes(4, "big")
     if function == "header":
         return out + bytes([LENT]) * size
     return out + b"".join(records).ljust(size, b"\0")
 
 
+def unit_values(words):
+    """The bytes of two Unit-Values from their numbers in decimal."""
+    return b"".join(int(word).to_bytes(size, "big", signed=True) for word, size in zip(words, (8, 4, 8, 4)))
+
+
+def case(function, *words):
+    """A case from the words of its line."""
+    if function == "compare":
+        return function, "rfc", 0, 0, unit_values(words)
+    reading, limit, room, text = words
+    data = b"" if text == "-" else bytes.fromhex(REPEATED.sub(lambda m: m[1] * int(m[2]), text))
+    if function in ("message-by", "avp-by"):
+        reading, data = "rfc", int(reading).to_bytes(4, "big") + data
+    return function, reading, int(limit), int(room), data
+
+
 def main():
     make = {"frames": frame, "answers": answer}[sys.argv[1]]
     for line in sys.stdin:
         words = line.split()
-        if not words or words[0].startswith("#"):
-            continue
-        function, reading, limit, room, text = words
-        data = b"" if text == "-" else bytes.fromhex(REPEATED.sub(lambda m: m[1] * int(m[2]), text))
-        sys.stdout.buffer.write(make(function, reading, int(limit), int(room), data))
+        if words and not words[0].startswith("#"):
+            sys.stdout.buffer.write(make(*case(*words)))
 
 
 if __name__ == "__main__":

@@ -1,4 +1,4 @@
-"""Sets tshark's fields of a message beside our records of it in the RFC reading.
+"""Sets tshark's fields of a message beside our records of it, in the RFC reading or by an edition.
 
 Where the two are known to part, the departure is counted under its number in docs/DIFFERENCES.md: D3 wrong lengths, D7 other families of addresses, D10 Time.
 """
@@ -10,16 +10,21 @@ import capture
 from model import be
 
 KINDS = {
-    "OctetString": 1, "Unsigned32": 4, "Unsigned64": 5, "Grouped": 8, "Enumerated": 9, "UTF8String": 10, "DiameterIdentity": 11, "DiameterURI": 12,
-    "Address": 13, "Time": 14,
+    "OctetString": 1, "Integer32": 2, "Integer64": 3, "Unsigned32": 4, "Unsigned64": 5, "Grouped": 8, "Enumerated": 9, "UTF8String": 10,
+    "DiameterIdentity": 11, "DiameterURI": 12, "Address": 13, "Time": 14,
 }
 NAMES = {kind: name for name, kind in KINDS.items()}
-UNHANDLED, UNSIGNED32, GROUPED, ENUMERATED, ADDRESS, TIME = 0, 4, 8, 9, 13, 14
-# Unsigned32 in RFC 6733, and in tshark's dictionary:
-LISTED = {
-    258: "AppId", 259: "AppId", 265: "VendorId", 266: "VendorId", 268: "Enumerated", 270: "Enumerated", 291: "Integer32", 298: "Enumerated",
-    299: "Enumerated",
+UNHANDLED, OCTETS, INTEGER32, INTEGER64, UNSIGNED32, UNSIGNED64, GROUPED, ENUMERATED, ADDRESS, TIME = 0, 1, 2, 3, 4, 5, 8, 9, 13, 14
+NUMBERS = (INTEGER32, INTEGER64, UNSIGNED32, UNSIGNED64, ENUMERATED)
+# The types in tshark's dictionary that are others than ours, by our kind:
+DEPARTED = {
+    UNSIGNED32: {
+        258: "AppId", 259: "AppId", 265: "VendorId", 266: "VendorId", 268: "Enumerated", 270: "Enumerated", 291: "Integer32", 298: "Enumerated",
+        299: "Enumerated",
+    },
+    OCTETS: {438: "IPFilterRule"},
 }
+LISTED = {code: kind for kind, names in DEPARTED.items() for code in names}
 HEADER = {
     "version": (0, 1), "message length": (1, 4), "message flags": (4, 5), "command code": (5, 8), "application": (8, 12), "hop-by-hop": (12, 16),
     "end-to-end": (16, 20),
@@ -44,26 +49,32 @@ def kind_shown(avp):
         return None
     if avp.type == "Address" and avp.part("addr_family") not in ("1", "2"):
         return UNHANDLED
-    return UNSIGNED32 if avp.code in LISTED else KINDS[avp.type]
+    return LISTED[avp.code] if avp.code in LISTED else KINDS[avp.type]
+
+
+def signed(number, bits):
+    return number - (number >> bits - 1 << bits)
 
 
 def our_value(kind, record, data):
     """The value in the form in which tshark shows it."""
     number = be(record[24:32])
-    if kind == 1:
+    if kind == OCTETS:
         return data.hex(":")
     if kind == ADDRESS:
         family = be(data[:2])
         return family, record[28:32] if family == 1 else data[2:]
-    if kind == ENUMERATED:
-        return number - WRAP * (number >> 31)
+    if kind in (ENUMERATED, INTEGER32):
+        return signed(number, 32)
+    if kind == INTEGER64:
+        return signed(number, 64)
     if kind == TIME:
         return number - TO_UNIX
-    return number if kind in (4, 5) else data.decode(errors="replace")
+    return number if kind in NUMBERS else data.decode(errors="replace")
 
 
 def shown_value(kind, avp, listed):
-    """tshark's value; a number of a listed type by its bits."""
+    """tshark's value; a number of a listed type by its bits, and text of one by its bytes."""
     text = avp.field.get("show")
     if kind == ADDRESS:
         return int(avp.part("addr_family")), ipaddress.ip_address(avp.part("IPv4") or avp.part("IPv6")).packed
@@ -71,9 +82,11 @@ def shown_value(kind, avp, listed):
         again = be(avp.data) < WRAP // 2
         listed["D10"] += again
         return calendar.timegm(time.strptime(text.split(".")[0], "%b %d, %Y %H:%M:%S")) - WRAP * again
-    if kind in (4, 5, ENUMERATED):
+    if kind in NUMBERS:
         return int(text) % WRAP if avp.code in LISTED else int(text)
-    return text if avp.data else ""
+    if not avp.data:
+        return ""
+    return text.encode().hex(":") if avp.code in LISTED else text
 
 
 def of_avp(record, avp, data, listed):

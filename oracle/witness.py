@@ -1,22 +1,32 @@
-"""Makes what crates/witness must write: python3 oracle/witness.py RFC RUST > crates/witness/stdout
+"""Makes what crates/witness must write: python3 oracle/witness.py RFC6733 RFC4006 RFC8506 RUST > crates/witness/stdout
 
-RFC is the text of RFC 6733 (rfc-editor.org/rfc/rfc6733.txt): its table of section 4.5 gives codes, names and data types, and its
-pictures in sections 3 and 4.1 the flag bits. RUST is sawp-diameter/src/lib.rs: its enums give the names of its codes and the numbers of
-the kinds, and `Value::new` the kind of each name. docs/FORMAT.md gives the rest: that in the RFC reading another vendor's AVP is
-Unhandled, the refusals, and, by oracle/model.py, what is read and written of P8. Nothing is taken from our code.
+RFC6733 is the text of that RFC (rfc-editor.org/rfc/rfc6733.txt): its table of section 4.5 gives codes, names and data types, and its
+pictures in sections 3 and 4.1 the flag bits. RFC4006 and RFC8506 are the texts of those: their tables of section 8 give the codes and
+data types of each edition. RUST is sawp-diameter/src/lib.rs: its enums give the names of its codes and the numbers of the kinds, and
+`Value::new` the kind of each name. docs/FORMAT.md gives the rest: that in the RFC reading another vendor's AVP is Unhandled, the
+refusals, and, by oracle/model.py, what is read and written of P8 and how Unit-Values compare. Nothing is taken from our code.
 """
 import calendar
+import functools
 import re
 import sys
 
 import model
 
-CODES, STORE, LENT = 513, 37, 0xA5
+CODES, EDITION_CODES, STORE, LENT = 513, 701, 37, 0xA5
 P8 = bytes.fromhex("01000024" + "00" * 16 + "0000010c0000000d000007d100000000")
 BROKEN = bytes.fromhex("01000025" + "00" * 16 + "0000010c0000000d000007d10000000000")
 RECORD = bytes.fromhex("0000010c0000000d000000000000001c" + "0104020300000000" + "00000000000007d1")
 # What each refusal returns, by its number from 1 on, where it was made with 12.
-AMOUNTS = [12, 0, 0, 0, 0, 12, 0, 0, 12, 0, 12]
+AMOUNTS = [12, 0, 0, 0, 0, 12, 0, 0, 12, 0, 12, 0, 0]
+# What the order holds before a comparison.
+NO_ORDER = 7
+LARGEST, SMALLEST = 2**63 - 1, -(2**63)
+COMPARED = (
+    (15, 0, 150, -1), (-15, 0, 15, 0), (15, 0, -15, 0), (0, 18, 0, -18), (9, 18, 9 * 10**18 + 1, 0), (9, 18, 9 * 10**18 - 1, 0), (-9, 18, -9 * 10**18, 0),
+    (LARGEST, 18, LARGEST, 18), (SMALLEST, 18, LARGEST, -18), (1, 1, LARGEST, -18), (-1, 1, SMALLEST, -18), (1, 19, 1, 0), (1, 0, 1, -19), (0, 19, 0, 19),
+    (1, 2**31 - 1, 1, 0), (1, 0, 1, -(2**31)),
+)
 
 
 def rfc_table(text):
@@ -28,6 +38,12 @@ def rfc_table(text):
             rows.append(["", "", ""])
         rows[-1] = [was + more for was, more in zip(rows[-1], (name, code, kind))]
     return {int(code): (name, kind.replace("Diam", "Diameter").replace("Ident", "Identity")) for name, code, kind in rows}
+
+
+def edition_table(text):
+    """Code: data type, of section 8 of RFC 4006 or RFC 8506. Only the first line of a name has its code."""
+    section = text[text.rindex("\n8.  Credit-Control AVPs") : text.rindex("\n8.1.  CC-Correlation-Id AVP")]
+    return {int(code): kind for code, kind in re.findall(r"^   [A-Z].* +(\d+) +8\.\d+ +(\w+) *\|", section, re.M)}
 
 
 def rust_names(text):
@@ -73,6 +89,16 @@ def codes(rfc_text, rust_text):
             line(label, code, name, *map(order.index, kinds), *(k == "Grouped" for k in kinds))
 
 
+def editions(rfc_text, edition_texts, rust_text):
+    """The kind of each code by each edition; a data type without a kind is an OctetString."""
+    base, order = {code: kind for code, (_, kind) in rfc_table(rfc_text).items()}, rust_kinds(rust_text)[0]
+    tables = {edition: {**base, **edition_table(text)} for edition, text in edition_texts.items()}
+    for code in range(EDITION_CODES):
+        for edition, table in tables.items():
+            kind = table.get(code, "Unhandled")
+            line("edition", edition, code, order.index(kind if kind in order else "OctetString"))
+
+
 def flags(rfc_text):
     header, avp = bits_of(rfc_text, "|R P E T r r r r|"), bits_of(rfc_text, "|V M P r r r r r|")
     for byte in range(256):
@@ -90,6 +116,9 @@ def numbers():
     for bits in (0, 1, 2**31 - 1, 2**31, 2208988800, 2**32 - 1):
         unix = bits + calendar.timegm((1900, 1, 1, 0, 0, 0))
         line("signed", bits, int.from_bytes(bits.to_bytes(4, "big"), "big", signed=True), unix, unix)
+    for size in (32, 64):
+        for bits in (0, 1, 2 ** (size - 1) - 1, 2 ** (size - 1), 2**size - 1):
+            line(f"integer{size}", bits, int.from_bytes(bits.to_bytes(size // 8, "big"), "big", signed=True))
     for number, amount in enumerate(AMOUNTS, 1):
         line("refusal", number, amount)
 
@@ -124,19 +153,24 @@ def stepped(answer, place):
     return answer[:13] + (model.be(answer[13:17]) + place - 20).to_bytes(4, "big") + answer[17:21]
 
 
-def library():
-    def read(ask, reading, limit, data):
-        errors, records, tried, length = ask(("sawp", "rfc")[reading], limit, STORE // 32, data)
-        return errors, len(records), tried, length, b"".join(records).ljust(STORE, b"\0")
+def read(ask, dictionary, limit, data):
+    """What a store of that room holds afterwards, behind the numbers of the answer."""
+    errors, records, tried, length = ask(dictionary, limit, STORE // 32, data)
+    return errors, len(records), tried, length, b"".join(records).ljust(STORE, b"\0")
 
-    def show(label, words, result):
-        line(label, *words, *result[0], "leaves", *result[1])
 
+def show(label, words, result):
+    line(label, *words, *result[0], "leaves", *result[1])
+
+
+def readings():
     for rfc, limit in ((0, 64), (1, 64), (1, 0)):
-        show("message", (rfc, limit), answered(lambda: read(model.message, rfc, limit, P8), STORE, P8))
+        show("message", (rfc, limit), answered(lambda: read(model.message, model.READINGS[rfc], limit, P8), STORE, P8))
     for rfc, limit in ((0, 64), (1, 65)):
-        show("one-avp", (rfc, limit), answered(lambda: read(model.avp_alone, rfc, limit, P8[20:]), STORE, None))
-    line("header-alone", *answered(lambda: (model.header_alone(P8)[0], 0, 0, 20, b""), 0, P8)[0])
+        show("one-avp", (rfc, limit), answered(lambda: read(model.avp_alone, model.READINGS[rfc], limit, P8[20:]), STORE, None))
+
+
+def searches():
     for code in (268, 263):
         found = (outlined(lambda: model.search("sawp", code.to_bytes(4, "big"), data)) for data in (P8, BROKEN))
         line("find", code, *(number for outline in found for number in outline))
@@ -144,6 +178,9 @@ def library():
         answer = model.steps("sawp", bytes(20) + P8[place:])
         past = place if answer[0] != 1 else place - 20 + model.be(answer[21:25])
         line("next", place, past, *outlined(lambda: stepped(answer, place)))
+
+
+def writes():
     ids = b"".join(n.to_bytes(4, "big") for n in (257, 1, 2, 3, len(RECORD)))
     for size in (40, 35):
         def write():
@@ -151,13 +188,39 @@ def library():
             return 0, 0, 0, len(out), out.ljust(size, bytes([LENT]))
 
         show("write", (), answered(write, size, None))
+
+
+def by_edition():
+    for label, ask, data, head in (("message-by", model.message, P8, P8), ("avp-by", model.avp_alone, P8[20:], None)):
+        by = functools.partial(model.by_edition, ask)
+        for edition, limit in ((4006, 64), (8506, 64), (1, 64), (8506, 0), (1, 0)):
+            show(label, (edition, limit), answered(lambda: read(by, edition, limit, data), STORE, head))
+
+
+def comparisons():
+    for words in COMPARED:
+        try:
+            number, order = 0, model.comparison(model.unit_values(words)) - 1
+        except model.Refused as r:
+            number, order = r.number, NO_ORDER
+        line("compare", *words, number, order)
+
+
+def library():
+    readings()
+    line("header-alone", *answered(lambda: (model.header_alone(P8)[0], 0, 0, 20, b""), 0, P8)[0])
+    searches()
+    writes()
     for text in map(bytes.fromhex, ("41", "eda080", "f48fbfbf")):
         line("utf8", model.well_formed(text), *text)
+    by_edition()
+    comparisons()
 
 
 def main():
-    rfc_text, rust_text = (open(path, encoding="utf-8").read() for path in sys.argv[1:])
+    rfc_text, rfc4006_text, rfc8506_text, rust_text = (open(path, encoding="utf-8").read() for path in sys.argv[1:])
     codes(rfc_text, rust_text)
+    editions(rfc_text, {4006: rfc4006_text, 8506: rfc8506_text}, rust_text)
     flags(rfc_text)
     numbers()
     library()

@@ -4,6 +4,8 @@ use attribute::Dictionary;
 use attribute::Reading;
 use avp::AVP;
 use avps::Filled;
+use editions::Chosen;
+use editions::Edition;
 use front::ParsedAvp;
 use header::Header;
 use header::Parsed;
@@ -11,7 +13,9 @@ use refusal::Refusal;
 ghost use mathlib.Core.Path.{_≡_};
 ghost use mathlib.Core.Bool.{true};
 ghost use lib.ListN.{length};
+ghost use Rattle.rfc6733.specs.CreditControl.{editionOf};
 ghost use Rattle.rfc6733.specs.Decoder.{allowed, decoded, avpAlone};
+ghost use Rattle.rfc6733.specs.Editions.{noEdition, decodedBy, avpAloneBy};
 ghost use Rattle.record.specs.Store.{room};
 ghost use Rattle.attribute.specs.Attributes.{dictionary};
 ghost use Rattle.attribute.specs.ByTable.{dictionaryBy};
@@ -65,29 +69,52 @@ fn parse_body(
     }
 }
 
-/// Decodes the message at the front of `input` into records in `store`.
-pub fn parse(reading: Reading, limit: usize, input: &[u8], store: &mut [u8]) -> Decoded
-    ensures answer { λ r. ⌜ answerOf r ≡ decoded (dictionary reading) limit (room (now (store .entry))) (now (input .entry)) ⌝ }
-    ensures store { λ r. ⌜ now (store .exit) ≡ storeAfter (dictionary reading) (now (input .entry)) (now (store .entry)) r ⌝ }
+// A message, by a dictionary.
+fn parse_in(d: Dictionary, kinds: &[u8], limit: usize, input: &[u8], store: &mut [u8]) -> Decoded
+    ensures answer { λ r. ⌜ answerOf r ≡ decoded (dictionaryBy d (now (kinds .entry))) limit (room (now (store .entry))) (now (input .entry)) ⌝ }
+    ensures store { λ r. ⌜ now (store .exit) ≡ storeAfter (dictionaryBy d (now (kinds .entry))) (now (input .entry)) (now (store .entry)) r ⌝ }
 {
     if !count::allowed(limit) {
         return Decoded::Refused(Refusal::BadDepth);
     }
     match Header::parse(input) {
         Parsed::Accepted { header, errors } => {
-            let kinds = attribute::kind_table(reading);
-            parse_body(
-                reading.dictionary(),
-                &kinds,
-                limit,
-                header,
-                errors,
-                input,
-                store,
-            )
+            parse_body(d, kinds, limit, header, errors, input, store)
         }
         Parsed::Refused(why) => Decoded::Refused(why),
     }
+}
+
+/// Decodes the message at the front of `input` into records in `store`.
+pub fn parse(reading: Reading, limit: usize, input: &[u8], store: &mut [u8]) -> Decoded
+    ensures answer { λ r. ⌜ answerOf r ≡ decoded (dictionary reading) limit (room (now (store .entry))) (now (input .entry)) ⌝ }
+    ensures store { λ r. ⌜ now (store .exit) ≡ storeAfter (dictionary reading) (now (input .entry)) (now (store .entry)) r ⌝ }
+{
+    let kinds = attribute::kind_table(reading);
+    parse_in(reading.dictionary(), &kinds, limit, input, store)
+}
+
+// How a number that is no edition is refused: the limit comes first.
+fn no_edition(limit: usize) -> Refusal
+    ensures { λ r. ⌜ r ≡ noEdition limit ⌝ }
+{
+    if count::allowed(limit) {
+        Refusal::BadEdition
+    } else {
+        Refusal::BadDepth
+    }
+}
+
+/// The same by an edition of the credit-control dictionary, 4006 or 8506.
+pub fn parse_by(edition: u32, limit: usize, input: &[u8], store: &mut [u8]) -> Decoded
+    ensures answer { λ r. ⌜ answerOf r ≡ decodedBy edition limit (room (now (store .entry))) (now (input .entry)) ⌝ }
+    ensures store { λ r. ⌜ now (store .exit) ≡ storeAfter (editionOf edition) (now (input .entry)) (now (store .entry)) r ⌝ }
+{
+    let Chosen::Edition(chosen) = Edition::by_number(edition) else {
+        return Decoded::Refused(no_edition(limit));
+    };
+    let kinds = chosen.kind_table();
+    parse_in(Reading::Rfc.dictionary(), &kinds, limit, input, store)
 }
 
 // An AVP that is complete.
@@ -107,19 +134,37 @@ fn parse_one(
     avps::parse_avps(d, kinds, limit, &input[..size], 0, store)
 }
 
-/// Decodes the one AVP at the front of `input`, at depth 1, into records in `store`. Accepted, its length is its padded size.
-pub fn parse_avp(reading: Reading, limit: usize, input: &[u8], store: &mut [u8]) -> Filled
-    ensures answer { λ r. ⌜ avps.answerOf r ≡ avpAlone (dictionary reading) limit (room (now (store .entry))) (now (input .entry)) ⌝ }
-    ensures store { λ r. ⌜ now (store .exit) ≡ storeAfterAvp (dictionary reading) (now (input .entry)) (now (store .entry)) r ⌝ }
+// One AVP, by a dictionary.
+fn parse_avp_in(d: Dictionary, kinds: &[u8], limit: usize, input: &[u8], store: &mut [u8]) -> Filled
+    ensures answer { λ r. ⌜ avps.answerOf r ≡ avpAlone (dictionaryBy d (now (kinds .entry))) limit (room (now (store .entry))) (now (input .entry)) ⌝ }
+    ensures store { λ r. ⌜ now (store .exit) ≡ storeAfterAvp (dictionaryBy d (now (kinds .entry))) (now (input .entry)) (now (store .entry)) r ⌝ }
 {
     if !count::allowed(limit) {
         return Filled::Refused(Refusal::BadDepth);
     }
     match front::parse(input) {
-        ParsedAvp::Accepted(a) => {
-            let kinds = attribute::kind_table(reading);
-            parse_one(reading.dictionary(), &kinds, limit, a.size, input, store)
-        }
+        ParsedAvp::Accepted(a) => parse_one(d, kinds, limit, a.size, input, store),
         ParsedAvp::Refused(why) => Filled::Refused(why),
     }
+}
+
+/// Decodes the one AVP at the front of `input`, at depth 1, into records in `store`. Accepted, its length is its padded size.
+pub fn parse_avp(reading: Reading, limit: usize, input: &[u8], store: &mut [u8]) -> Filled
+    ensures answer { λ r. ⌜ avps.answerOf r ≡ avpAlone (dictionary reading) limit (room (now (store .entry))) (now (input .entry)) ⌝ }
+    ensures store { λ r. ⌜ now (store .exit) ≡ storeAfterAvp (dictionary reading) (now (input .entry)) (now (store .entry)) r ⌝ }
+{
+    let kinds = attribute::kind_table(reading);
+    parse_avp_in(reading.dictionary(), &kinds, limit, input, store)
+}
+
+/// The same by an edition of the credit-control dictionary, 4006 or 8506.
+pub fn parse_avp_by(edition: u32, limit: usize, input: &[u8], store: &mut [u8]) -> Filled
+    ensures answer { λ r. ⌜ avps.answerOf r ≡ avpAloneBy edition limit (room (now (store .entry))) (now (input .entry)) ⌝ }
+    ensures store { λ r. ⌜ now (store .exit) ≡ storeAfterAvp (editionOf edition) (now (input .entry)) (now (store .entry)) r ⌝ }
+{
+    let Chosen::Edition(chosen) = Edition::by_number(edition) else {
+        return Filled::Refused(no_edition(limit));
+    };
+    let kinds = chosen.kind_table();
+    parse_avp_in(Reading::Rfc.dictionary(), &kinds, limit, input, store)
 }

@@ -1,6 +1,6 @@
--- Request E1, of the two functions themselves: an index by `reader::find` and a full decode by `diameter::parse` can't disagree. What `parse`
--- accepted, `find` answers from the table that was left: the first record of depth 1 with the code, or none where there is none. Of what
--- `parse` refused as NotTiled it finds the first such AVP before the failing place. What `find` refuses, `parse` refuses in the same
+-- Request E1, of the functions themselves: an index by `reader::find` and a full decode by `diameter::parse` or `parse_by` can't disagree.
+-- What a decoder accepted, `find` answers from the table that was left: the first record of depth 1 with the code, or none where there is none. Of what
+-- it refused as NotTiled, `find` gives the first such AVP before the failing place. What `find` refuses, a decoder refuses in the same
 -- words. Between the contracts stand the laws of rfc6733/proofs/Sought.
 use Prim.Native.Nat.{ℕ, _-_, _*_, _≤_, _<_}
 use mathlib.Core.Path.{_≡_, refl, sym, ap, _∙_}
@@ -34,8 +34,6 @@ use Rattle.record.proofs.Layouts.{record-length, laid-length, laid-append}
 use Rattle.record.proofs.Outlines.{outline-bytes}
 use Rattle.round_trip.proofs.Tables.{laid-read}
 use Rattle.round_trip.proofs.RoundTrip.{records-fit}
-use Rattle.attribute.specs.declared.Reading.{Reading}
-use Rattle.attribute.specs.Attributes.{dictionary}
 use Rattle.diameter.specs.declared.Message.{Message}
 use Rattle.diameter.specs.declared.Decoded.{Decoded}
 use Rattle.diameter.specs.declared.Decoded.the-variants as decoder
@@ -45,8 +43,9 @@ use Rattle.reader.specs.declared.Found.{Found}
 use Rattle.reader.specs.declared.Found.the-variants.{At, None, Refused}
 use Rattle.reader.specs.Reading as reader
 use Rattle.reader.proofs.AnswerOf.{outcome-back, outcome-is-back}
-use Rattle.promises.proofs.OneOutcome.Calls.{Slice, Parse, Find}
-use Rattle.promises.proofs.RoundTrip.{lawful, left}
+use Rattle.promises.proofs.OneOutcome.Calls.{Slice, Find}
+use Rattle.promises.proofs.Ways.{Way, dictionaryOf, Known, Decode, decodes, accepts, refuses, lawful}
+use Rattle.promises.proofs.RoundTrip.{left}
 
 -- what stands first in a table
 abbrev pub shown : Option Outline → Found
@@ -68,18 +67,19 @@ shown-back : (x : Option Outline) → outcome-back (accepted x) ≡ shown x
 shown-back none = refl
 shown-back (some o) = refl
 
--- `parse` accepted m, whose records stand at the front of store′; `find` answered r of the same bytes. `Bytes` is asked as in RoundTrip
-pub found-in-the-table : (κs : Lfts 2) (reading : Reading) (limit : ℕ) (input store : Slice) (m : Message) (store′ : Slice)
+-- a decoder accepted m, whose records stand at the front of store′; `find` answered r of the same bytes. `Bytes` is asked as in RoundTrip
+pub found-in-the-table : (way : Way) (κs : Lfts 2) (limit : ℕ) (input store : Slice) (m : Message) (store′ : Slice)
     (λs : Lfts 1) (code : ℕ) (r : Found)
-    → Parse κs reading limit input store (decoder.Accepted m) store′ → Find λs input code r → Bytes (now input)
+    → Decode way κs limit input store (decoder.Accepted m) store′ → Find λs input code r → Bytes (now input)
     → r ≡ firstIn code (tableOf (take (m .records * recordSize) (now store′)))
 unfolding answerOf stored
-found-in-the-table κs reading limit input store m store′ λs code r p q bytes =
-    let D = dictionary reading in
+found-in-the-table way κs limit input store m store′ λs code r p q bytes =
+    let D = dictionaryOf way in
     let s = now input in
-    let e = sym (p .0) in
-    let l = left reading _ _ s m (now store′) _ e (p .1) in
-    let fits = records-fit D (lawful reading) _ _ s (messageAs m) bytes e in
+    let says = accepts way κs limit input store m store′ p in
+    let e = sym (says .answer-is) in
+    let l = left D _ _ s m (now store′) _ e (says .store-is) in
+    let fits = records-fit D (lawful way) _ _ s (messageAs m) bytes e in
     let found = firstWith code (map outlineOf (ofDepth 1 (messageRecords D s))) in
     sym (outcome-is-back r) ∙ ap outcome-back (q ∙ sought-accepted code s D _ _ (messageAs m) e) ∙ shown-back found
     ∙ rw (l .records-are, laid-read (messageRecords D s) fits, bare-outlines 1 (messageRecords D s))
@@ -118,23 +118,24 @@ unfolding reader.answerOf
 found-outline o x e = cc
 
 -- what was found stands in the store
-pub found-bytes-in-the-store : (κs : Lfts 2) (reading : Reading) (limit : ℕ) (input store : Slice) (m : Message) (store′ : Slice)
+pub found-bytes-in-the-store : (way : Way) (κs : Lfts 2) (limit : ℕ) (input store : Slice) (m : Message) (store′ : Slice)
     (λs : Lfts 1) (code : ℕ) (o : Outline)
-    → Parse κs reading limit input store (decoder.Accepted m) store′ → Find λs input code (At o)
-    → InTheStore code (messageRecords (dictionary reading) (now input)) (m .records) (now store′) o
+    → Decode way κs limit input store (decoder.Accepted m) store′ → Find λs input code (At o)
+    → InTheStore code (messageRecords (dictionaryOf way) (now input)) (m .records) (now store′) o
 unfolding answerOf stored
-found-bytes-in-the-store κs reading limit input store m store′ λs code o p q =
-    let D = dictionary reading in
+found-bytes-in-the-store way κs limit input store m store′ λs code o p q =
+    let D = dictionaryOf way in
     let s = now input in
-    let e = sym (p .0) in
+    let says = accepts way κs limit input store m store′ p in
+    let e = sym (says .answer-is) in
     let f = first-record code o (messageRecords D s) (found-outline o _ (q ∙ sought-accepted code s D _ _ (messageAs m) e)) in
     let n = ap length (f .table-is) ∙ length-append (f .before) (f .it ∷ f .behind) in
     let store-is : now store′ ≡ laid (f .before ++ (f .it ∷ f .behind)) ++ cleared (f .before ++ (f .it ∷ f .behind)) =
-    p .1 ∙ ap (λ (rs : List Record). laid rs ++ cleared rs) (f .table-is)
+    says .store-is ∙ ap (λ (rs : List Record). laid rs ++ cleared rs) (f .table-is)
     in
     record {
       index = length (f .before);
-      among = omega (arith, left reading _ _ s m (now store′) _ e (p .1) .records-counted);
+      among = omega (arith, left D _ _ s m (now store′) _ e (says .store-is) .records-counted);
       same-bytes =
           ap outlineBytes (f .outline-is)
           ∙ record-there (f .before) (f .behind) (f .it) (cleared (f .before ++ (f .it ∷ f .behind)))
@@ -158,24 +159,27 @@ failing-back : (x : Option Outline) → outcome-back (beforeFailing x) ≡ shown
 failing-back none = refl
 failing-back (some o) = refl
 
--- `parse` refused the bytes since they do not tile; `find` answered r
-pub found-before-the-failing-place : (κs : Lfts 2) (reading : Reading) (limit : ℕ) (input store store′ : Slice) (λs : Lfts 1) (code : ℕ) (r : Found)
-    → Parse κs reading limit input store (decoder.Refused NotTiled) store′ → Find λs input code r
+-- a decoder refused the bytes since they do not tile; `find` answered r
+pub found-before-the-failing-place : (way : Way) (κs : Lfts 2) (limit : ℕ) (input store store′ : Slice) (λs : Lfts 1) (code : ℕ) (r : Found)
+    → Decode way κs limit input store (decoder.Refused NotTiled) store′ → Find λs input code r
     → r ≡ shownFailing (firstWith code (outlines headerSize (tree unentered (messageBody (now input)))))
 unfolding answerOf
-found-before-the-failing-place κs reading limit input store store′ λs code r p q =
+found-before-the-failing-place way κs limit input store store′ λs code r p q =
     let s = now input in
+    let says = refuses way κs limit input store NotTiled store′ (λ n. refl) p in
     let found = firstWith code (outlines headerSize (tree unentered (messageBody s))) in
-    sym (outcome-is-back r) ∙ ap outcome-back (q ∙ sought-failing code s (dictionary reading) limit _ (sym (p .0))) ∙ failing-back found
+    sym (outcome-is-back r) ∙ ap outcome-back (q ∙ sought-failing code s (dictionaryOf way) limit _ (sym (says .answer-is))) ∙ failing-back found
 
--- `find` refused the bytes, and `parse` was asked with a limit that is allowed
-pub refused-by-both : (κs : Lfts 2) (reading : Reading) (limit : ℕ) (input store : Slice) (r : Decoded) (store′ : Slice)
+-- `find` refused the bytes, and a decoder was asked with a limit that is allowed
+pub refused-by-both : (way : Way) (κs : Lfts 2) (limit : ℕ) (input store : Slice) (r : Decoded) (store′ : Slice)
     (λs : Lfts 1) (code : ℕ) (why : Refusal)
-    → Parse κs reading limit input store r store′ → Find λs input code (Refused why) → 1 ≤ limit → limit ≤ 64
+    → Known way → Decode way κs limit input store r store′ → Find λs input code (Refused why) → 1 ≤ limit → limit ≤ 64
     → r ≡ decoder.Refused why
 unfolding answerOf reader.answerOf allowed
-refused-by-both κs reading limit input store r store′ λs code why p q low high =
-    answer-of-injective r (decoder.Refused why) (p .0 ∙ sought-refused code (now input) why (sym q) (dictionary reading) limit _ (within low high))
+refused-by-both way κs limit input store r store′ λs code why known p q low high =
+    let says = decodes way κs limit input store r store′ known p in
+    answer-of-injective r (decoder.Refused why)
+    (says .answer-is ∙ sought-refused code (now input) why (sym q) (dictionaryOf way) limit _ (within low high))
   where
     within : 1 ≤ limit → limit ≤ 64 → allowed limit ≡ true
     within a b = rw (le-leb 1 limit a, le-leb limit 64 b)

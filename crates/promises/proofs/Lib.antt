@@ -1,7 +1,10 @@
 pub mod OneOutcome
 mod Acceptance
+pub mod Ways
 pub mod Refusals
 pub mod Decoder
 pub mod RoundTrip
 pub mod ReadBack
 pub mod Index
+pub mod Editions
+pub mod UnitValues

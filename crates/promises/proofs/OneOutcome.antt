@@ -5,6 +5,7 @@ mod ByHand
 use Prim.Native.Nat.{ℕ}
 use mathlib.Core.Path.{_≡_, sym, ap₂, _∙_}
 use mathlib.Core.Bool.{Bool}
+use lib.IntN.{ℤ}
 use contract.Lifetimes.{Lfts}
 use denote.Ref.{RefT, now}
 use Rattle.attribute.specs.declared.Reading.{Reading}
@@ -12,7 +13,7 @@ use Rattle.attribute.specs.declared.Dictionary.{Dictionary}
 use Rattle.record.specs.Record.{Record}
 use Rattle.reader.specs.declared.Reader.{Reader}
 use Rattle.writer.specs.declared.Fields.{Fields}
-use Rattle.promises.proofs.OneOutcome.Calls.{Slice, RecordPut, ParseAvps, Parse, ParseAvp, Dump, Write, TandrekilyMessage, TandrekilyHeader, TandrekilyAvp, TandrekilyFind, TandrekilyNext, TandrekilyWrite}
+use Rattle.promises.proofs.OneOutcome.Calls.{Slice, RecordPut, ParseAvps, Parse, ParseAvp, ParseBy, ParseAvpBy, Dump, Write, TandrekilyMessage, TandrekilyHeader, TandrekilyAvp, TandrekilyMessageBy, TandrekilyAvpBy, TandrekilyFind, TandrekilyNext, TandrekilyWrite, TandrekilyCompare}
 use Rattle.promises.proofs.OneOutcome.ByHand.{ReaderNew, ReaderNext, ReaderFind}
 use Rattle.octets.proofs.be_u16.Reads as be-u16
 use Rattle.octets.proofs.be_u24.Reads as be-u24
@@ -29,11 +30,18 @@ use Rattle.flags.proofs.raised.Reads as raised
 use Rattle.flags.proofs.join.Reads as join
 use Rattle.signed.proofs.signed_enumerated.Reads as signed-enumerated
 use Rattle.signed.proofs.unix_seconds.Reads as unix-seconds
+use Rattle.signed.proofs.integer32.Reads as integer32
+use Rattle.signed.proofs.integer64.Reads as integer64
+use Rattle.signed.proofs.magnitude.Reads as magnitude
+use Rattle.unit_value.proofs.Ordering.reverse.Reads as reverse
+use Rattle.unit_value.proofs.compare.Reads as compare
 use Rattle.attribute.proofs.Attribute.new.Reads as attribute-new
 use Rattle.attribute.proofs.Attribute.read.Reads as attribute-read
 use Rattle.attribute.proofs.Reading.dictionary.Reads as reading-dictionary
 use Rattle.attribute.proofs.kind_table.Reads as kind-table
 use Rattle.attribute.proofs.kind.Reads as kind
+use Rattle.editions.proofs.Edition.by_number.Reads as by-number
+use Rattle.editions.proofs.Edition.kind_table.Reads as edition-kind-table
 use Rattle.header.proofs.Header.is_request.Reads as is-request
 use Rattle.header.proofs.Header.is_proxiable.Reads as is-proxiable
 use Rattle.header.proofs.Header.is_error.Reads as is-error
@@ -67,9 +75,12 @@ use Rattle.rules.proofs.header_size.Reads as record-header-size
 use Rattle.rules.proofs.keepers.Reads as keepers
 use Rattle.tandrekily.proofs.tandrekily_is_utf8.Reads as tandrekily-is-utf8
 use Rattle.tandrekily.proofs.tandrekily_unix_seconds.Reads as tandrekily-unix-seconds
+use Rattle.tandrekily.proofs.tandrekily_integer32.Reads as tandrekily-integer32
+use Rattle.tandrekily.proofs.tandrekily_integer64.Reads as tandrekily-integer64
 use Rattle.header.proofs.AnswerOf as header-answers
 use Rattle.front.proofs.AnswerOf as front-answers
 use Rattle.reader.proofs.AnswerOf as reader-answers
+use Rattle.unit_value.proofs.AnswerOf as unit-value-answers
 use Rattle.value.proofs.ReadAs.{one-value}
 use Rattle.count.proofs.AnswerOf as count-answers
 use Rattle.avps.proofs.AnswerOf as avps-answers
@@ -145,6 +156,23 @@ signed-enumerated-one κs a r r′ s p q = p ∙ sym q
 unix-seconds-one : Single unix-seconds.Post
 unix-seconds-one κs a r r′ s p q = p ∙ sym q
 
+integer32-one : Single integer32.Post
+integer32-one κs a r r′ s p q = p ∙ sym q
+
+integer64-one : Single integer64.Post
+integer64-one κs a r r′ s p q = p ∙ sym q
+
+magnitude-one : Single magnitude.Post
+magnitude-one κs a r r′ s p q = p ∙ sym q
+
+-- ---- unit_value
+
+reverse-one : Single reverse.Post
+reverse-one κs a r r′ s p q = p ∙ sym q
+
+compare-one : Single compare.Post
+compare-one κs a r r′ s p q = unit-value-answers.answer-of-injective r r′ (p ∙ sym q)
+
 -- ---- attribute
 
 attribute-new-one : Single attribute-new.Post
@@ -161,6 +189,14 @@ kind-table-one κs a r r′ s p q = p ∙ sym q
 
 kind-one : Single kind.Post
 kind-one κs a r r′ s p q = p ∙ sym q
+
+-- ---- editions
+
+by-number-one : Single by-number.Post
+by-number-one κs a r r′ s p q = p ∙ sym q
+
+edition-kind-table-one : Single edition-kind-table.Post
+edition-kind-table-one κs a r r′ s p q = p ∙ sym q
 
 -- ---- header
 
@@ -305,6 +341,20 @@ parse-avp-one κs reading limit input store r r′ after after′ p q =
     let at-exit′ = q .1 in
     (e, cc)
 
+parse-by-one : (κs : Lfts 2) (edition limit : ℕ) (input store : Slice) → Settled (ParseBy κs edition limit input store)
+parse-by-one κs edition limit input store r r′ after after′ p q =
+    let e = diameter-answers.answer-of-injective r r′ (p .0 ∙ sym (q .0)) in
+    let at-exit = p .1 in
+    let at-exit′ = q .1 in
+    (e, cc)
+
+parse-avp-by-one : (κs : Lfts 2) (edition limit : ℕ) (input store : Slice) → Settled (ParseAvpBy κs edition limit input store)
+parse-avp-by-one κs edition limit input store r r′ after after′ p q =
+    let e = avps-answers.answer-of-injective r r′ (p .0 ∙ sym (q .0)) in
+    let at-exit = p .1 in
+    let at-exit′ = q .1 in
+    (e, cc)
+
 -- ---- lines
 
 dump-one : (κs : Lfts 2) (input out : Slice) → Settled (Dump κs input out)
@@ -341,6 +391,14 @@ tandrekily-avp-one : (κs : Lfts 3) (rfc : Bool) (limit : ℕ) (input store resu
     → BothSettled (TandrekilyAvp κs rfc limit input store result)
 tandrekily-avp-one κs rfc limit input store result _ _ _ _ p q = (p .1 ∙ sym (q .1), p .0 ∙ sym (q .0))
 
+tandrekily-message-by-one : (κs : Lfts 3) (edition limit : ℕ) (input store result : Slice)
+    → BothSettled (TandrekilyMessageBy κs edition limit input store result)
+tandrekily-message-by-one κs edition limit input store result _ _ _ _ p q = (p .1 ∙ sym (q .1), p .0 ∙ sym (q .0))
+
+tandrekily-avp-by-one : (κs : Lfts 3) (edition limit : ℕ) (input store result : Slice)
+    → BothSettled (TandrekilyAvpBy κs edition limit input store result)
+tandrekily-avp-by-one κs edition limit input store result _ _ _ _ p q = (p .1 ∙ sym (q .1), p .0 ∙ sym (q .0))
+
 tandrekily-find-one : (κs : Lfts 2) (input : Slice) (code : ℕ) (result after after′ : Slice) → TandrekilyFind κs input code result after
     → TandrekilyFind κs input code result after′ → now after ≡ now after′
 tandrekily-find-one κs input code result after after′ p q = p ∙ sym q
@@ -357,3 +415,13 @@ tandrekily-is-utf8-one κs a r r′ s p q = p ∙ sym q
 
 tandrekily-unix-seconds-one : Single tandrekily-unix-seconds.Post
 tandrekily-unix-seconds-one κs a r r′ s p q = p ∙ sym q
+
+tandrekily-integer32-one : Single tandrekily-integer32.Post
+tandrekily-integer32-one κs a r r′ s p q = p ∙ sym q
+
+tandrekily-integer64-one : Single tandrekily-integer64.Post
+tandrekily-integer64-one κs a r r′ s p q = p ∙ sym q
+
+tandrekily-compare-one : (κs : Lfts 1) (digits exponent otherDigits otherExponent : ℤ) (order : RefT ℤ)
+    → Settled (TandrekilyCompare κs digits exponent otherDigits otherExponent order)
+tandrekily-compare-one κs digits exponent otherDigits otherExponent order r r′ after after′ p q = (p .0 ∙ sym (q .0), p .1 ∙ sym (q .1))

@@ -1,4 +1,4 @@
--- What `writer::write` wrote, `diameter::parse` accepts, with the same codes, flags, vendors, data and padding at the top level as the
+-- What `writer::write` wrote, `diameter::parse` and `parse_by` accept, with the same codes, flags, vendors, data and padding at the top level as the
 -- table's records of depth 1 (docs/FORMAT.md, 8.4). Between
 -- the contracts stands the reading back of the definition (round_trip/proofs/ReadBack).
 use Prim.Native.Nat.{ℕ, _≤_}
@@ -25,15 +25,14 @@ use Rattle.refusal.proofs.Answers.{accepts, passes-append}
 use Rattle.round_trip.specs.Tops.{tops, topRecords, roots}
 use Rattle.round_trip.proofs.Written.{written-writable}
 use Rattle.round_trip.proofs.ReadBack.{read-back}
-use Rattle.attribute.specs.declared.Reading.{Reading}
-use Rattle.attribute.specs.Attributes.{dictionary}
 use Rattle.diameter.specs.declared.Message.{Message}
 use Rattle.diameter.specs.declared.Decoded.{Decoded}
 use Rattle.diameter.specs.declared.Decoded.the-variants as decoder
 use Rattle.writer.specs.declared.Fields.{Fields}
 use Rattle.writer.specs.declared.Written.the-variants as writer
 use Rattle.writer.specs.Answers.{fieldsAs, answerOf}
-use Rattle.promises.proofs.OneOutcome.Calls.{Slice, Parse, Write}
+use Rattle.promises.proofs.OneOutcome.Calls.{Slice, Write}
+use Rattle.promises.proofs.Ways.{Way, dictionaryOf, Known, Decode, decodes}
 use Rattle.promises.proofs.Acceptance.{AcceptedAs, accepted-as}
 
 -- the run of a message's AVPs
@@ -69,18 +68,18 @@ pub record ReadAs (D : Dictionary) (input table pool : List ℕ) (n : ℕ) (r : 
   pub same-tops : tops (run D input) ≡ topRecords pool (forest (tableOf table))
   pub depth-one : roots (forest (tableOf table)) ≡ ofDepth 1 (tableOf table)
 
--- `write` wrote n bytes to the front of out′, and these are the input of `parse`, whose limit and store hold what they read as.
+-- `write` wrote n bytes to the front of out′, and these are the input of a decoder, whose limit and store hold what they read as.
 -- `Bytes` is asked as in RoundTrip.
 pub written-then-decoded : (κs : Lfts 3) (fields : Fields) (table pool out : Slice) (n : ℕ) (out′ : Slice)
-    (λs : Lfts 2) (reading : Reading) (limit : ℕ) (input store : Slice) (r : Decoded) (store′ : Slice)
-    → Write κs fields table pool out (writer.Accepted n) out′ → Parse λs reading limit input store r store′ → Bytes (now table)
+    (way : Way) (λs : Lfts 2) (limit : ℕ) (input store : Slice) (r : Decoded) (store′ : Slice)
+    → Write κs fields table pool out (writer.Accepted n) out′ → Known way → Decode way λs limit input store r store′ → Bytes (now table)
     → now input ≡ take n (now out′)
-    → 1 ≤ limit → limit ≤ 64 → deepest (run (dictionary reading) (now input)) ≤ limit
-    → length (messageRecords (dictionary reading) (now input)) ≤ capacity (length (now store))
-    → ReadAs (dictionary reading) (now input) (now table) (now pool) n r
+    → 1 ≤ limit → limit ≤ 64 → deepest (run (dictionaryOf way) (now input)) ≤ limit
+    → length (messageRecords (dictionaryOf way) (now input)) ≤ capacity (length (now store))
+    → ReadAs (dictionaryOf way) (now input) (now table) (now pool) n r
 unfolding over answerOf output
-written-then-decoded κs fields table pool out n out′ λs reading limit input store r store′ p q bytes input-is low high shallow fits =
-    let D = dictionary reading in
+written-then-decoded κs fields table pool out n out′ way λs limit input store r store′ p known q bytes input-is low high shallow fits =
+    let D = dictionaryOf way in
     let f = fieldsAs fields in
     let s = tableBytes f (now table) (now pool) in
     let e = sym (p .0) in
@@ -88,7 +87,7 @@ written-then-decoded κs fields table pool out n out′ λs reading limit input 
     let same : now input ≡ s = input-is ∙ ap (take n) (p .1) ∙ take-at s (drop (length s) (now out)) n (w .1) in
     let b = read-back D f (now table) (now pool) (length (now out)) n bytes e in
     let yes = is-accepted D limit (capacity (length (now store))) (now input) low high (rw same (b .header)) (rw same (b .tiled)) shallow fits in
-    let a = accepted-as r (messageOf D (now input)) (q .0 ∙ yes) in
+    let a = accepted-as r (messageOf D (now input)) (decodes way λs limit input store r store′ known q .answer-is ∙ yes) in
     record {
       message = a .message;
       is-accepted = a .is-accepted;

@@ -7,7 +7,8 @@ use mathlib.Core.List.{List}
 use native.Mathlib.Omega.{arith}
 use lib.ListN.{getD}
 use contract.Lifetimes.{Lfts}
-use denote.Ref.{now}
+use lib.IntN.{ℤ}
+use denote.Ref.{RefT, now}
 use Rattle.refusal.specs.Answer.{Refusal, Answer, accepted, refused}
 use Rattle.record.specs.Record.{Record}
 use Rattle.rfc6733.specs.Decoder.{Counts, Message}
@@ -21,8 +22,9 @@ use Rattle.diameter.specs.Answers as diameter-answers
 use Rattle.writer.specs.declared.Fields.{Fields}
 use Rattle.writer.specs.declared.Written.the-variants as writer
 use Rattle.writer.specs.Answers as writer-answers
-use Rattle.tandrekily.specs.Results.{messageResult, avpResult, writtenResult}
-use Rattle.promises.proofs.OneOutcome.Calls.{Slice, Parse, ParseAvp, Write, TandrekilyMessage, TandrekilyAvp, TandrekilyWrite}
+use Rattle.unit_value.specs.declared.Ordering.{Ordering}
+use Rattle.tandrekily.specs.Results.{messageResult, avpResult, writtenResult, numberShown, orderShown}
+use Rattle.promises.proofs.OneOutcome.Calls.{Slice, Parse, ParseAvp, ParseBy, ParseAvpBy, Write, TandrekilyMessage, TandrekilyAvp, TandrekilyMessageBy, TandrekilyAvpBy, TandrekilyWrite, TandrekilyCompare}
 
 -- ---- in Rattle: the answer is a refusal
 
@@ -35,6 +37,16 @@ pub parse-avp-refusal-changes-nothing : (κs : Lfts 2) (reading : Reading) (limi
     → ParseAvp κs reading limit input store (avps.Refused why) store′ → now store′ ≡ now store
 unfolding avps-answers.answerOf stored
 parse-avp-refusal-changes-nothing κs reading limit input store why store′ p = p .1
+
+pub parse-by-refusal-changes-nothing : (κs : Lfts 2) (edition limit : ℕ) (input store : Slice) (why : Refusal) (store′ : Slice)
+    → ParseBy κs edition limit input store (diameter.Refused why) store′ → now store′ ≡ now store
+unfolding diameter-answers.answerOf stored
+parse-by-refusal-changes-nothing κs edition limit input store why store′ p = p .1
+
+pub parse-avp-by-refusal-changes-nothing : (κs : Lfts 2) (edition limit : ℕ) (input store : Slice) (why : Refusal) (store′ : Slice)
+    → ParseAvpBy κs edition limit input store (avps.Refused why) store′ → now store′ ≡ now store
+unfolding avps-answers.answerOf stored
+parse-avp-by-refusal-changes-nothing κs edition limit input store why store′ p = p .1
 
 pub write-refusal-changes-nothing : (κs : Lfts 3) (fields : Fields) (table pool out : Slice) (why : Refusal) (out′ : Slice)
     → Write κs fields table pool out (writer.Refused why) out′ → now out′ ≡ now out
@@ -73,7 +85,26 @@ pub tandrekily-avp-refusal-changes-nothing : (κs : Lfts 3) (rfc : Bool) (limit 
     → TandrekilyAvp κs rfc limit input store result store′ result′ → 1 ≤ number (now result′) → now store′ ≡ now store
 tandrekily-avp-refusal-changes-nothing κs rfc limit input store result store′ result′ p h = p .1 ∙ avp-store _ _ _ (rw (p .0) at h)
 
+pub tandrekily-message-by-refusal-changes-nothing : (κs : Lfts 3) (edition limit : ℕ) (input store result store′ result′ : Slice)
+    → TandrekilyMessageBy κs edition limit input store result store′ result′ → 1 ≤ number (now result′) → now store′ ≡ now store
+tandrekily-message-by-refusal-changes-nothing κs edition limit input store result store′ result′ p h = p .1 ∙ message-store _ _ _ (rw (p .0) at h)
+
+pub tandrekily-avp-by-refusal-changes-nothing : (κs : Lfts 3) (edition limit : ℕ) (input store result store′ result′ : Slice)
+    → TandrekilyAvpBy κs edition limit input store result store′ result′ → 1 ≤ number (now result′) → now store′ ≡ now store
+tandrekily-avp-by-refusal-changes-nothing κs edition limit input store result store′ result′ p h = p .1 ∙ avp-store _ _ _ (rw (p .0) at h)
+
 pub tandrekily-write-refusal-changes-nothing : (κs : Lfts 4) (flags code appId hopId endId : ℕ) (table pool out result out′ result′ : Slice)
     → TandrekilyWrite κs flags code appId hopId endId table pool out result out′ result′ → 1 ≤ number (now result′) → now out′ ≡ now out
 tandrekily-write-refusal-changes-nothing κs flags code appId hopId endId table pool out result out′ result′ p h =
     p .1 ∙ written-out _ _ _ (rw (p .0) at h)
+
+-- a comparison's number is its result
+order-lent : (x : Answer Ordering) (lent : ℤ) → 1 ≤ numberShown x → orderShown x lent ≡ lent
+unfolding numberShown orderShown
+order-lent (accepted o) lent h = absurd (omega arith)
+order-lent (refused why) lent h = refl
+
+pub tandrekily-compare-refusal-changes-nothing : (κs : Lfts 1) (digits exponent otherDigits otherExponent : ℤ) (order : RefT ℤ) (r : ℕ) (order′ : RefT ℤ)
+    → TandrekilyCompare κs digits exponent otherDigits otherExponent order r order′ → 1 ≤ r → now order′ ≡ now order
+tandrekily-compare-refusal-changes-nothing κs digits exponent otherDigits otherExponent order r order′ p h =
+    p .1 ∙ order-lent _ _ (rw (p .0) at h)

@@ -1,5 +1,5 @@
--- Demand 2, the second half, of the two functions themselves: what `diameter::parse` accepted, in either reading, `writer::write` gives
--- back byte for byte, from the header's fields, the records that the store holds and the message. Between the contracts stands the
+-- Demand 2, the second half, of the functions themselves: what `diameter::parse` or `parse_by` accepted, `writer::write` gives back byte
+-- for byte, from the header's fields, the records that the store holds and the message. Between the contracts stands the
 -- round trip of the definition (round_trip/proofs/RoundTrip).
 use Prim.Native.Nat.{ℕ, _*_, _≤_}
 use mathlib.Core.Path.{_≡_, sym, ap, _∙_}
@@ -12,6 +12,7 @@ use denote.Ref.{now}
 use Rattle.octets.specs.Octets.{Bytes, over}
 use Rattle.refusal.specs.Answer.{Answer, accepted}
 use Rattle.rfc6733.specs.Header.{headerOf, messageLength}
+use Rattle.rfc6733.specs.Dictionary.{Dictionary}
 use Rattle.record.specs.Record.{recordSize, laid}
 use Rattle.rfc6733.specs.Decoder as definition
 use Rattle.rfc6733.specs.Decoder.{runCounts, decoded, messageRecords, messageOf}
@@ -19,12 +20,8 @@ use Rattle.record.specs.Store.{stored}
 use Rattle.rfc6733.specs.Writer.{tableBytes, output}
 use Rattle.rfc6733.proofs.Accepted.{when-accepted}
 use Rattle.record.proofs.Layouts.{laid-length}
-use Rattle.round_trip.specs.Trip.{fieldsOf, Lawful}
-use Rattle.round_trip.proofs.LeafKinds.{sawp-lawful, rfc-lawful}
+use Rattle.round_trip.specs.Trip.{fieldsOf}
 use Rattle.round_trip.proofs.RoundTrip.{round-trip}
-use Rattle.attribute.specs.declared.Reading.{Reading}
-use Rattle.attribute.specs.declared.Reading.the-variants.{Sawp, Rfc}
-use Rattle.attribute.specs.Attributes.{dictionary}
 use Rattle.header.specs.Parsed.{headerAs}
 use Rattle.diameter.specs.declared.Message.{Message}
 use Rattle.diameter.specs.declared.Decoded.the-variants as decoder
@@ -35,25 +32,20 @@ use Rattle.writer.specs.declared.Written.the-variants as writer
 use Rattle.writer.specs.Answers as writers
 use Rattle.writer.specs.Answers.{fieldsAs}
 use Rattle.writer.proofs.AnswerOf.{answer-of-injective}
-use Rattle.promises.proofs.OneOutcome.Calls.{Slice, Parse, Write}
+use Rattle.promises.proofs.OneOutcome.Calls.{Slice, Write}
+use Rattle.promises.proofs.Ways.{Way, dictionaryOf, Decode, accepts, lawful}
 
-pub lawful : (r : Reading) → Lawful (dictionary r)
-unfolding dictionary
-lawful Sawp = sawp-lawful
-lawful Rfc = rfc-lawful
-
--- a message m of the bytes s, that `parse` accepted and left in the store
-pub record Left (r : Reading) (s : List ℕ) (m : Message) (store : List ℕ) : Type 0 where
+-- a message m of the bytes s, that was accepted by a dictionary and left in the store
+pub record Left (D : Dictionary) (s : List ℕ) (m : Message) (store : List ℕ) : Type 0 where
   pub header-is : headerOf s ≡ headerAs (m .header)
   pub length-is : messageLength s ≡ m .length
-  pub records-counted : length (messageRecords (dictionary r) s) ≡ m .records
-  pub records-are : take (m .records * recordSize) store ≡ laid (messageRecords (dictionary r) s)
+  pub records-counted : length (messageRecords D s) ≡ m .records
+  pub records-are : take (m .records * recordSize) store ≡ laid (messageRecords D s)
 
-pub left : (r : Reading) (limit room : ℕ) (s : List ℕ) (m : Message) (store rest : List ℕ)
-    → decoded (dictionary r) limit room s ≡ accepted (messageAs m) → store ≡ laid (messageRecords (dictionary r) s) ++ rest → Left r s m store
+pub left : (D : Dictionary) (limit room : ℕ) (s : List ℕ) (m : Message) (store rest : List ℕ)
+    → decoded D limit room s ≡ accepted (messageAs m) → store ≡ laid (messageRecords D s) ++ rest → Left D s m store
 unfolding messageOf runCounts messageRecords messageAs
-left r limit room s m store rest e is =
-    let D = dictionary r in
+left D limit room s m store rest e is =
     let a = when-accepted D limit room s (messageAs m) e in
     let n : length (messageRecords D s) ≡ m .records = ap (λ (x : definition.Message). x .counts .records) (a .message-is) in
     let l = laid-length (messageRecords D s) in
@@ -64,23 +56,24 @@ left r limit room s m store rest e is =
       records-are = ap (take (m .records * recordSize)) is ∙ take-at (laid (messageRecords D s)) rest (m .records * recordSize) (omega arith);
     }
 
--- `parse` accepted m and left its records in store′; `write`, given m's header, those records and the input, answered r and left out′.
+-- A decoder accepted m and left its records in store′; `write`, given m's header, those records and the input, answered r and left out′.
 -- `Bytes` is true of every slice by its type; but `now` of a reference is a list of numbers, and that they are bytes is told only to a
 -- function that reads through it. So it stands here.
-pub decoded-then-written : (κs : Lfts 2) (reading : Reading) (limit : ℕ) (input store : Slice) (m : Message) (store′ : Slice)
+pub decoded-then-written : (way : Way) (κs : Lfts 2) (limit : ℕ) (input store : Slice) (m : Message) (store′ : Slice)
     (λs : Lfts 3) (fields : Fields) (table pool out : Slice) (r : Written) (out′ : Slice)
-    → Parse κs reading limit input store (decoder.Accepted m) store′ → Write λs fields table pool out r out′ → Bytes (now input)
+    → Decode way κs limit input store (decoder.Accepted m) store′ → Write λs fields table pool out r out′ → Bytes (now input)
     → fieldsAs fields ≡ fieldsOf (headerAs (m .header))
     → now table ≡ take (m .records * recordSize) (now store′)
     → now pool ≡ now input
     → m .length ≤ length (now out)
     → (r ≡ writer.Accepted (m .length)) × (now out′ ≡ over (take (m .length) (now input)) (now out))
 unfolding answerOf stored writers.answerOf output
-decoded-then-written κs reading limit input store m store′ λs fields table pool out r out′ p q bytes fields-are table-is pool-is room =
-    let D = dictionary reading in
-    let e = sym (p .0) in
-    let l = left reading _ _ (now input) m (now store′) _ e (p .1) in
-    let again = round-trip D (lawful reading) _ _ (now input) (messageAs m) bytes e (length (now out)) (omega (arith, l .length-is)) in
+decoded-then-written way κs limit input store m store′ λs fields table pool out r out′ p q bytes fields-are table-is pool-is room =
+    let D = dictionaryOf way in
+    let says = accepts way κs limit input store m store′ p in
+    let e = sym (says .answer-is) in
+    let l = left D _ _ (now input) m (now store′) _ e (says .store-is) in
+    let again = round-trip D (lawful way) _ _ (now input) (messageAs m) bytes e (length (now out)) (omega (arith, l .length-is)) in
     let f : fieldsAs fields ≡ fieldsOf (headerOf (now input)) = fields-are ∙ ap fieldsOf (sym (l .header-is)) in
     let t : now table ≡ laid (messageRecords D (now input)) = table-is ∙ l .records-are in
     let ok : writers.answerOf r ≡ accepted (m .length) = q .0 ∙ rw (f, t, pool-is) (again .accepts ∙ ap accepted (l .length-is)) in

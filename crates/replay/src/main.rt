@@ -1,7 +1,6 @@
 // Answers framed cases from standard input on standard output: the bridge to the oracle and, with the frames kept beside it, a
 // test of the decoders. oracle/README.md has the frame and the answer. It stops at the end of the input or at a frame that it can't hold.
 use attribute::Reading;
-use avp::AVP;
 use avps::Filled;
 use diameter::Decoded;
 use header::Header;
@@ -10,6 +9,9 @@ use reader::Found;
 use reader::Step;
 use record::Record;
 use record::outline::Outline;
+use unit_value::Compared;
+use unit_value::Ordering;
+use unit_value::UnitValue;
 use writer::Fields;
 use writer::Written;
 ghost use Prim.Native.Nat.{_≤_};
@@ -67,8 +69,8 @@ fn write_counts(errors: u8, records: usize, tried: usize, length: usize) {
     write_count(length);
 }
 
-fn message(reading: Reading, limit: usize, input: &[u8], store: &mut [u8]) {
-    match diameter::parse(reading, limit, input, store) {
+fn write_message(d: Decoded) {
+    match d {
         Decoded::Accepted(m) => {
             write_refusal(0, 0);
             write_header(m.header);
@@ -89,8 +91,8 @@ fn header_alone(input: &[u8]) {
     }
 }
 
-fn one_avp(reading: Reading, limit: usize, input: &[u8], store: &mut [u8]) {
-    match diameter::parse_avp(reading, limit, input, store) {
+fn write_avp(f: Filled) {
+    match f {
         Filled::Accepted(one) => {
             write_refusal(0, 0);
             write_counts(one.errors, one.records, one.tried, one.length);
@@ -109,13 +111,34 @@ fn write_outline(o: Outline) {
     write_u24(o.pads);
 }
 
-// The code stands in the input before the message.
-fn find(input: &[u8]) {
-    if input.len() < AVP::CODE_SIZE {
+// A code or an edition stands in the input before what is read by it.
+const NUMBER: usize = 4;
+
+fn number_of(input: &[u8]) -> u32
+    requires { ⌜ 4 ≤ length (now input) ⌝ }
+{
+    octets::be_u32(input[0], input[1], input[2], input[3])
+}
+
+fn message_by(limit: usize, input: &[u8], store: &mut [u8]) {
+    if input.len() < NUMBER {
         return;
     }
-    let code = octets::be_u32(input[0], input[1], input[2], input[3]);
-    match reader::find(&input[AVP::CODE_SIZE..], code) {
+    write_message(diameter::parse_by(number_of(input), limit, &input[NUMBER..], store));
+}
+
+fn avp_by(limit: usize, input: &[u8], store: &mut [u8]) {
+    if input.len() < NUMBER {
+        return;
+    }
+    write_avp(diameter::parse_avp_by(number_of(input), limit, &input[NUMBER..], store));
+}
+
+fn find(input: &[u8]) {
+    if input.len() < NUMBER {
+        return;
+    }
+    match reader::find(&input[NUMBER..], number_of(input)) {
         Found::At(o) => {
             write_refusal(0, 0);
             write_u8(1);
@@ -203,6 +226,39 @@ fn table(input: &[u8], out: &mut [u8]) {
     write_written(writer::write(fields_of(input), &input[TABLE..end], &input[end..], out));
 }
 
+// Two Unit-Values stand in the input one after the other, each as the data of its Value-Digits and of its Exponent.
+const UNIT_VALUE: usize = 12;
+
+fn unit_value_of(v: &[u8]) -> UnitValue
+    requires { ⌜ 12 ≤ length (now v) ⌝ }
+{
+    UnitValue {
+        digits: signed::integer64(octets::be_u64(v[0], v[1], v[2], v[3], v[4], v[5], v[6], v[7])),
+        exponent: signed::integer32(octets::be_u32(v[8], v[9], v[10], v[11])),
+    }
+}
+
+fn write_order(o: Ordering) {
+    match o {
+        Ordering::Less => write_u8(0),
+        Ordering::Equal => write_u8(1),
+        Ordering::Greater => write_u8(2),
+    }
+}
+
+fn comparison(input: &[u8]) {
+    if input.len() < 2 * UNIT_VALUE {
+        return;
+    }
+    match unit_value::compare(unit_value_of(input), unit_value_of(&input[UNIT_VALUE..])) {
+        Compared::Is(o) => {
+            write_refusal(0, 0);
+            write_order(o);
+        }
+        Compared::Refused(why) => write_refusal(why.number(), why.amount()),
+    }
+}
+
 fn reading_of(b: u8) -> Reading {
     if b == 0 { Reading::Sawp } else { Reading::Rfc }
 }
@@ -221,11 +277,14 @@ fn answer(frame: [u8; FRAME_SIZE], input: &[u8], store: &mut [u8]) {
     let reading = reading_of(frame[1]);
     let limit = frame[2] as usize;
     match function {
-        0 => message(reading, limit, input, store),
+        0 => write_message(diameter::parse(reading, limit, input, store)),
         1 => header_alone(input),
-        2 => one_avp(reading, limit, input, store),
+        2 => write_avp(diameter::parse_avp(reading, limit, input, store)),
         4 => find(input),
         5 => steps(input),
+        6 => message_by(limit, input, store),
+        7 => avp_by(limit, input, store),
+        8 => comparison(input),
         _ => table(input, store),
     }
 }

@@ -10,7 +10,7 @@ use mir.Syntax.{w64}
 use mir.Val.{SFits, toZ, ofZ}
 use mir.ValLaws.{toZ-pos, toZ-ofZ}
 use borrow.Author.Tests.{lt-ltb, le-ltb}
-use Rattle.rfc6733.specs.Signed.{signed32}
+use Rattle.rfc6733.specs.Signed.{signed}
 
 within : (v n : ℕ) → v < 2 ^ 32 → n < 2 ^ 32 → SFits w64 (pos v -ℤ pos (suc n))
 within v n hv hn = by (ltb v (suc n))
@@ -30,10 +30,10 @@ module _ (v : ℕ) (small : v < 2 ^ 32) where
   difference-is {n} little =
       toZ-ofZ w64 (toZ w64 v -ℤ pos (suc n)) (difference-fits little) ∙ ap (λ (z : ℤ). z -ℤ pos (suc n)) read-as-signed
 
-  pub lower-half : v < 2 ^ 31 → toZ w64 v ≡ signed32 v
-  unfolding signed32
+  pub lower-half : v < 2 ^ 31 → toZ w64 v ≡ signed 32 v
+  unfolding signed
   lower-half h = rw (lt-ltb v (2 ^ 31) h) read-as-signed
 
-  pub upper-half : 2 ^ 31 ≤ v → toZ w64 (ofZ w64 (toZ w64 v -ℤ pos (2 ^ 32))) ≡ signed32 v
-  unfolding signed32
+  pub upper-half : 2 ^ 31 ≤ v → toZ w64 (ofZ w64 (toZ w64 v -ℤ pos (2 ^ 32))) ≡ signed 32 v
+  unfolding signed
   upper-half h = rw (le-ltb v (2 ^ 31) h) (difference-is (omega arith))

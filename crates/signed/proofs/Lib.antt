@@ -1,1 +1,4 @@
 mod Differences
+mod Patterns
+pub mod Signs
+pub mod Casts

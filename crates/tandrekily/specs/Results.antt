@@ -5,15 +5,21 @@ use mathlib.Core.Bool.{Bool, true, false}
 use mathlib.Core.Option.{Option, none, some}
 use mathlib.Core.List.{List, _∷_}
 use lib.ListN.{length}
+use lib.IntN.{ℤ, pos, negsuc}
 use Rattle.refusal.specs.Answer.{Refusal, Answer, accepted, refused}
 use Rattle.refusal.specs.Refusals.{numberOf, amountOf}
 use Rattle.rfc6733.specs.Header.{Header, headerLayout}
+use Rattle.rfc6733.specs.CreditControl.{editionOf}
 use Rattle.rfc6733.specs.Decoder.{Counts, Message, decoded, messageRecords, avpAlone, aloneRecords}
+use Rattle.rfc6733.specs.Editions.{decodedBy, avpAloneBy}
 use Rattle.record.specs.Outline.{Outline, outlineNumbers}
 use Rattle.record.specs.Store.{room, stored}
 use Rattle.rfc6733.specs.Writer.{Fields, written, tableBytes, output}
 use Rattle.reader.specs.declared.Stepped.{Stepped}
 use Rattle.reader.specs.Reading.{foundOf, answerOf}
+use Rattle.unit_value.specs.declared.Ordering.{Ordering}
+use Rattle.unit_value.specs.declared.Ordering.the-variants.{Less, Equal, Greater}
+use Rattle.unit_value.specs.UnitValues.{compared}
 use Rattle.attribute.specs.Attributes.{dictionary}
 use Rattle.attribute.specs.declared.Reading.{Reading}
 use Rattle.attribute.specs.declared.Reading.the-variants.{Sawp, Rfc}
@@ -81,6 +87,13 @@ messageAsked rfc limit store input = decoded (dictionary (readingOf rfc)) limit 
 abbrev pub avpAsked : Bool → ℕ → List ℕ → List ℕ → Answer Counts
 avpAsked rfc limit store input = avpAlone (dictionary (readingOf rfc)) limit (room store) input
 
+-- the same by an edition
+abbrev pub messageAskedBy : ℕ → ℕ → List ℕ → List ℕ → Answer Message
+messageAskedBy edition limit store input = decodedBy edition limit (room store) input
+
+abbrev pub avpAskedBy : ℕ → ℕ → List ℕ → List ℕ → Answer Counts
+avpAskedBy edition limit store input = avpAloneBy edition limit (room store) input
+
 -- a table to be written, with a lent output
 abbrev pub writeAsked : Fields → List ℕ → List ℕ → List ℕ → Answer ℕ
 writeAsked f table pool out = written f table pool (length out)
@@ -98,6 +111,33 @@ messageStore rfc limit store input =
 abbrev pub avpStore : Bool → ℕ → List ℕ → List ℕ → List ℕ
 avpStore rfc limit store input = stored (avpAsked rfc limit store input) (aloneRecords (dictionary (readingOf rfc)) input) store
 
+abbrev pub messageStoreBy : ℕ → ℕ → List ℕ → List ℕ → List ℕ
+messageStoreBy edition limit store input = stored (messageAskedBy edition limit store input) (messageRecords (editionOf edition) input) store
+
+abbrev pub avpStoreBy : ℕ → ℕ → List ℕ → List ℕ → List ℕ
+avpStoreBy edition limit store input = stored (avpAskedBy edition limit store input) (aloneRecords (editionOf edition) input) store
+
 abbrev pub writeOutput : ℕ → ℕ → ℕ → ℕ → ℕ → List ℕ → List ℕ → List ℕ → List ℕ
 writeOutput f c a h e table pool out =
     let fields = fieldsGiven f c a h e in output (writeAsked fields table pool out) (tableBytes fields table pool) out
+
+-- ---- a comparison
+
+-- by the digits and the exponent of each
+unfoldable pub comparedGiven : ℤ → ℤ → ℤ → ℤ → Answer Ordering
+comparedGiven d e d′ e′ = compared (record { digits = d; exponent = e }) (record { digits = d′; exponent = e′ })
+
+unfoldable pub signOf : Ordering → ℤ
+signOf Less = negsuc 0
+signOf Equal = pos 0
+signOf Greater = pos 1
+
+-- the answer's number
+unfoldable pub numberShown : Answer Ordering → ℕ
+numberShown (accepted o) = 0
+numberShown (refused why) = numberOf why
+
+-- the order that was lent, afterwards
+unfoldable pub orderShown : Answer Ordering → ℤ → ℤ
+orderShown (accepted o) order = signOf o
+orderShown (refused why) order = order

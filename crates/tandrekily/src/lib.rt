@@ -9,13 +9,16 @@ use header::Parsed;
 use reader::Found;
 use record::outline::Outline;
 use refusal::Refusal;
+use unit_value::Compared;
+use unit_value::Ordering;
+use unit_value::UnitValue;
 use writer::Fields;
 use writer::Written;
 ghost use mathlib.Core.Path.{_≡_};
 ghost use Rattle.rfc3629.specs.Utf8.{wellFormed};
 ghost use Rattle.rfc6733.specs.Decoder.{headerAlone};
 ghost use Rattle.rfc6733.specs.Search.{sought};
-ghost use Rattle.rfc6733.specs.Signed.{unixSeconds};
+ghost use Rattle.rfc6733.specs.Signed.{signed, unixSeconds};
 ghost use Rattle.header.specs.Parsed as header;
 ghost use Rattle.header.specs.Parsed.{headerAs};
 ghost use Rattle.avps.specs.Answers as avps;
@@ -24,7 +27,7 @@ ghost use Rattle.diameter.specs.Answers.{answerOf};
 ghost use Rattle.reader.specs.Reading as reader;
 ghost use Rattle.reader.specs.Reading.{stepAt};
 ghost use Rattle.writer.specs.Answers as writer;
-ghost use Rattle.tandrekily.specs.Results.{readingOf, result, refusal, messageResult, avpResult, writtenResult, outlineResult, foundResult, stepResult, messageAsked, avpAsked, writeResult, messageStore, avpStore, writeOutput};
+ghost use Rattle.tandrekily.specs.Results.{readingOf, result, refusal, messageResult, avpResult, writtenResult, outlineResult, foundResult, stepResult, messageAsked, avpAsked, messageAskedBy, avpAskedBy, writeResult, messageStore, avpStore, messageStoreBy, avpStoreBy, writeOutput, signOf, numberShown, orderShown, comparedGiven};
 
 /// How many numbers a result has. include/tandrekily.h names them.
 pub const RESULT: usize = 13;
@@ -179,6 +182,16 @@ fn of_found(f: Found) -> [u64; OUTLINE]
     }
 }
 
+fn sign_of(o: Ordering) -> i32
+    ensures { λ r. ⌜ r ≡ signOf o ⌝ }
+{
+    match o {
+        Ordering::Less => -1,
+        Ordering::Equal => 0,
+        Ordering::Greater => 1,
+    }
+}
+
 /// Decodes the message at the front of `input` into records in `store`.
 #[no_mangle]
 pub extern "C" fn tandrekily_message(
@@ -192,6 +205,21 @@ pub extern "C" fn tandrekily_message(
     ensures store { λ _. ⌜ now (store .exit) ≡ messageStore rfc limit (now (store .entry)) (now (input .entry)) ⌝ }
 {
     *result = of_message(diameter::parse(reading_of(rfc), limit, input, store));
+}
+
+/// The same by an edition of the credit-control dictionary, 4006 or 8506.
+#[no_mangle]
+pub extern "C" fn tandrekily_message_by(
+    edition: u32,
+    limit: usize,
+    input: &[u8],
+    store: &mut [u8],
+    result: &mut [u64; RESULT],
+)
+    ensures result { λ _. ⌜ now (result .exit) ≡ messageResult (messageAskedBy edition limit (now (store .entry)) (now (input .entry))) ⌝ }
+    ensures store { λ _. ⌜ now (store .exit) ≡ messageStoreBy edition limit (now (store .entry)) (now (input .entry)) ⌝ }
+{
+    *result = of_message(diameter::parse_by(edition, limit, input, store));
 }
 
 /// Reads the header at the front of `input` alone.
@@ -215,6 +243,21 @@ pub extern "C" fn tandrekily_avp(
     ensures store { λ _. ⌜ now (store .exit) ≡ avpStore rfc limit (now (store .entry)) (now (input .entry)) ⌝ }
 {
     *result = of_avp(diameter::parse_avp(reading_of(rfc), limit, input, store));
+}
+
+/// The same by an edition of the credit-control dictionary, 4006 or 8506.
+#[no_mangle]
+pub extern "C" fn tandrekily_avp_by(
+    edition: u32,
+    limit: usize,
+    input: &[u8],
+    store: &mut [u8],
+    result: &mut [u64; RESULT],
+)
+    ensures result { λ _. ⌜ now (result .exit) ≡ avpResult (avpAskedBy edition limit (now (store .entry)) (now (input .entry))) ⌝ }
+    ensures store { λ _. ⌜ now (store .exit) ≡ avpStoreBy edition limit (now (store .entry)) (now (input .entry)) ⌝ }
+{
+    *result = of_avp(diameter::parse_avp_by(edition, limit, input, store));
 }
 
 /// The first AVP with this code at the top level of the message at the front of `input`.
@@ -281,4 +324,46 @@ pub extern "C" fn tandrekily_unix_seconds(time: u32) -> i64
     ensures { λ r. ⌜ r ≡ unixSeconds time ⌝ }
 {
     signed::unix_seconds(time)
+}
+
+/// The number behind the value of an Integer32 or an Enumerated.
+#[no_mangle]
+pub extern "C" fn tandrekily_integer32(bits: u32) -> i32
+    ensures { λ r. ⌜ r ≡ signed 32 bits ⌝ }
+{
+    signed::integer32(bits)
+}
+
+/// The number behind the value of an Integer64.
+#[no_mangle]
+pub extern "C" fn tandrekily_integer64(bits: u64) -> i64
+    ensures { λ r. ⌜ r ≡ signed 64 bits ⌝ }
+{
+    signed::integer64(bits)
+}
+
+/// How one Unit-Value stands to another: less is -1, equal 0, greater 1. The answer's number is returned.
+#[no_mangle]
+pub extern "C" fn tandrekily_compare(
+    digits: i64,
+    exponent: i32,
+    other_digits: i64,
+    other_exponent: i32,
+    order: &mut i32,
+) -> u8
+    ensures number { λ r. ⌜ r ≡ numberShown (comparedGiven digits exponent «other_digits» «other_exponent») ⌝ }
+    ensures order { λ _. ⌜ now (order .exit) ≡ orderShown (comparedGiven digits exponent «other_digits» «other_exponent») (now (order .entry)) ⌝ }
+{
+    let a = UnitValue { digits, exponent };
+    let b = UnitValue {
+        digits: other_digits,
+        exponent: other_exponent,
+    };
+    match unit_value::compare(a, b) {
+        Compared::Is(o) => {
+            *order = sign_of(o);
+            0
+        }
+        Compared::Refused(why) => why.number(),
+    }
 }

@@ -54,6 +54,46 @@ fn avp(rfc: bool, limit: usize) {
     read_avp(rfc, limit, &mut [LENT; STORE]);
 }
 
+fn read_message_by(edition: u32, limit: usize, store: &mut [u8]) {
+    let mut result = [0u64; RESULT];
+    tandrekily::tandrekily_message_by(edition, limit, &P8, store, &mut result);
+    show(&result, store);
+}
+
+fn message_by(edition: u32, limit: usize) {
+    print::label(b"message-by");
+    print::number(edition as u64);
+    print::number(limit as u64);
+    read_message_by(edition, limit, &mut [LENT; STORE]);
+}
+
+fn read_avp_by(edition: u32, limit: usize, store: &mut [u8]) {
+    let mut result = [0u64; RESULT];
+    tandrekily::tandrekily_avp_by(edition, limit, &P8[20..], store, &mut result);
+    show(&result, store);
+}
+
+fn avp_by(edition: u32, limit: usize) {
+    print::label(b"avp-by");
+    print::number(edition as u64);
+    print::number(limit as u64);
+    read_avp_by(edition, limit, &mut [LENT; STORE]);
+}
+
+// An edition, another, none; and with a limit that is not allowed.
+fn by_edition() {
+    message_by(4006, 64);
+    message_by(8506, 64);
+    message_by(1, 64);
+    message_by(8506, 0);
+    message_by(1, 0);
+    avp_by(4006, 64);
+    avp_by(8506, 64);
+    avp_by(1, 64);
+    avp_by(8506, 0);
+    avp_by(1, 0);
+}
+
 fn header() {
     let mut result = [0u64; RESULT];
     tandrekily::tandrekily_header(&P8, &mut result);
@@ -110,6 +150,55 @@ fn texts() {
     utf8(b"\xF4\x8F\xBF\xBF");
 }
 
+// What the order holds before a comparison.
+const NO_ORDER: i32 = 7;
+
+fn compare(digits: i64, exponent: i32, other_digits: i64, other_exponent: i32) {
+    let mut order = NO_ORDER;
+    let number = tandrekily::tandrekily_compare(
+        digits,
+        exponent,
+        other_digits,
+        other_exponent,
+        &mut order,
+    );
+    print::label(b"compare");
+    print::signed(digits);
+    print::signed32(exponent);
+    print::signed(other_digits);
+    print::signed32(other_exponent);
+    print::number(number as u64);
+    print::signed32(order);
+    print::end();
+}
+
+const LARGEST: i64 = 0x7FFF_FFFF_FFFF_FFFF;
+
+const SMALLEST: i64 = -0x8000_0000_0000_0000;
+
+fn comparisons() {
+    compare(15, 0, 150, -1);
+    compare(-15, 0, 15, 0);
+    compare(15, 0, -15, 0);
+    compare(0, 18, 0, -18);
+    compare(9, 18, 9_000_000_000_000_000_001, 0);
+    compare(9, 18, 8_999_999_999_999_999_999, 0);
+    compare(-9, 18, -9_000_000_000_000_000_000, 0);
+    compare(LARGEST, 18, LARGEST, 18);
+    compare(SMALLEST, 18, LARGEST, -18);
+    compare(1, 1, LARGEST, -18);
+    compare(-1, 1, SMALLEST, -18);
+}
+
+// An exponent that is not taken on either side, whatever the digits.
+fn bad_exponents() {
+    compare(1, 19, 1, 0);
+    compare(1, 0, 1, -19);
+    compare(0, 19, 0, 19);
+    compare(1, 0x7FFF_FFFF, 1, 0);
+    compare(1, 0, 1, -0x8000_0000);
+}
+
 pub(super) fn lines() {
     message(false, 64);
     message(true, 64);
@@ -124,4 +213,7 @@ pub(super) fn lines() {
     next(36);
     writes();
     texts();
+    by_edition();
+    comparisons();
+    bad_exponents();
 }

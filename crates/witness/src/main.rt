@@ -1,6 +1,7 @@
 // Answers of the public functions that no other program calls, in lines of words and decimal numbers. The lines that it must write
-// are made by oracle/witness.py from RFC 6733's text and the Rust's, so they are a second witness to names, kinds, flags and numbers.
+// are made by oracle/witness.py from the texts of the RFCs and of the Rust, so they are a second witness to names, kinds, flags and numbers.
 mod bits;
+mod by_edition;
 mod codes;
 mod library;
 mod names;
@@ -9,6 +10,7 @@ mod print;
 
 fn main() {
     codes::lines();
+    by_edition::lines();
     bits::lines();
     numbers::lines();
     library::lines();

@@ -45,6 +45,35 @@ fn signed(bits: u32) {
     print::end();
 }
 
+// By the library, which asks the crate.
+fn integer32(bits: u32) {
+    print::label(b"integer32");
+    print::number(bits as u64);
+    print::signed32(tandrekily::tandrekily_integer32(bits));
+    print::end();
+}
+
+fn integer64(bits: u64) {
+    print::label(b"integer64");
+    print::number(bits);
+    print::signed(tandrekily::tandrekily_integer64(bits));
+    print::end();
+}
+
+// The numbers at the ends of both halves.
+fn integers() {
+    integer32(0);
+    integer32(1);
+    integer32(0x7FFF_FFFF);
+    integer32(0x8000_0000);
+    integer32(0xFFFF_FFFF);
+    integer64(0);
+    integer64(1);
+    integer64(0x7FFF_FFFF_FFFF_FFFF);
+    integer64(0x8000_0000_0000_0000);
+    integer64(0xFFFF_FFFF_FFFF_FFFF);
+}
+
 fn refusal(why: Refusal) {
     print::label(b"refusal");
     print::number(why.number() as u64);
@@ -65,6 +94,8 @@ fn refusals() {
     refusal(Refusal::BadTable(12));
     refusal(Refusal::TooLong);
     refusal(Refusal::NoRoom(12));
+    refusal(Refusal::BadEdition);
+    refusal(Refusal::BadExponent);
 }
 
 pub(super) fn lines() {
@@ -79,5 +110,6 @@ pub(super) fn lines() {
     signed(0x8000_0000);
     signed(2_208_988_800);
     signed(0xFFFF_FFFF);
+    integers();
     refusals();
 }

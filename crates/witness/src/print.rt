@@ -26,14 +26,17 @@ pub(super) fn bit(b: bool) {
     }
 }
 
-// The magnitude of the least number is one more than that of the largest, so one is put aside before the sign is turned.
 pub(super) fn signed(n: i64) {
     if n < 0 {
         io::write_all(OUT, b" -");
-        io::print_decimal(OUT, (-1 - n) as u64 + 1);
-        return;
+    } else {
+        io::write_all(OUT, b" ");
     }
-    number(n as u64);
+    io::print_decimal(OUT, signed::magnitude(n));
+}
+
+pub(super) fn signed32(n: i32) {
+    signed(n as i64);
 }
 
 pub(super) fn result(all: &[u64; RESULT]) {

@@ -3,6 +3,7 @@
 use Prim.Native.Nat.{ℕ}
 use mathlib.Core.Bool.{Bool}
 use mathlib.Core.List.{List}
+use lib.IntN.{ℤ}
 use contract.Lifetimes.{Lfts}
 use denote.Ref.{RefT}
 use Rattle.attribute.specs.declared.Reading.{Reading}
@@ -14,6 +15,11 @@ use Rattle.avps.proofs.parse_avps.Reads as parse-avps
 use Rattle.diameter.specs.declared.Decoded.{Decoded}
 use Rattle.diameter.proofs.parse.Reads as parse
 use Rattle.diameter.proofs.parse_avp.Reads as parse-avp
+use Rattle.diameter.proofs.parse_by.Reads as parse-by
+use Rattle.diameter.proofs.parse_avp_by.Reads as parse-avp-by
+use Rattle.unit_value.specs.declared.UnitValue.{UnitValue}
+use Rattle.unit_value.specs.declared.Compared.{Compared}
+use Rattle.unit_value.proofs.compare.Reads as compare
 use Rattle.lines.proofs.dump.Reads as dump
 use Rattle.reader.specs.declared.Found.{Found}
 use Rattle.reader.proofs.find.Reads as find
@@ -23,6 +29,9 @@ use Rattle.writer.proofs.write.Reads as write
 use Rattle.tandrekily.proofs.tandrekily_message.Reads as tandrekily-message
 use Rattle.tandrekily.proofs.tandrekily_header.Reads as tandrekily-header
 use Rattle.tandrekily.proofs.tandrekily_avp.Reads as tandrekily-avp
+use Rattle.tandrekily.proofs.tandrekily_message_by.Reads as tandrekily-message-by
+use Rattle.tandrekily.proofs.tandrekily_avp_by.Reads as tandrekily-avp-by
+use Rattle.tandrekily.proofs.tandrekily_compare.Reads as tandrekily-compare
 use Rattle.tandrekily.proofs.tandrekily_find.Reads as tandrekily-find
 use Rattle.tandrekily.proofs.tandrekily_next.Reads as tandrekily-next
 use Rattle.tandrekily.proofs.tandrekily_write.Reads as tandrekily-write
@@ -44,6 +53,17 @@ Parse κs reading limit input store r store′ = parse.Post κs (reading, (limit
 abbrev pub ParseAvp : Lfts 2 → Reading → ℕ → Slice → Slice → Filled → Slice → Type 0
 ParseAvp κs reading limit input store r store′ = parse-avp.Post κs (reading, (limit, (input, (store, tt)))) r (reading, (limit, (input, (store′, tt))))
 
+abbrev pub ParseBy : Lfts 2 → ℕ → ℕ → Slice → Slice → Decoded → Slice → Type 0
+ParseBy κs edition limit input store r store′ =
+    parse-by.Post κs (edition, (limit, (input, (store, tt)))) r (edition, (limit, (input, (store′, tt))))
+
+abbrev pub ParseAvpBy : Lfts 2 → ℕ → ℕ → Slice → Slice → Filled → Slice → Type 0
+ParseAvpBy κs edition limit input store r store′ =
+    parse-avp-by.Post κs (edition, (limit, (input, (store, tt)))) r (edition, (limit, (input, (store′, tt))))
+
+abbrev pub Compare : UnitValue → UnitValue → Compared → Type 0
+Compare a b r = compare.Post tt (a, (b, tt)) r (a, (b, tt))
+
 abbrev pub Find : Lfts 1 → Slice → ℕ → Found → Type 0
 Find κs input code r = find.Post κs (input, (code, tt)) r (input, (code, tt))
 
@@ -63,6 +83,19 @@ TandrekilyHeader κs input result result′ = tandrekily-header.Post κs (input,
 abbrev pub TandrekilyAvp : Lfts 3 → Bool → ℕ → Slice → Slice → Slice → Slice → Slice → Type 0
 TandrekilyAvp κs rfc limit input store result store′ result′ =
     tandrekily-avp.Post κs (rfc, (limit, (input, (store, (result, tt))))) tt (rfc, (limit, (input, (store′, (result′, tt)))))
+
+abbrev pub TandrekilyMessageBy : Lfts 3 → ℕ → ℕ → Slice → Slice → Slice → Slice → Slice → Type 0
+TandrekilyMessageBy κs edition limit input store result store′ result′ =
+    tandrekily-message-by.Post κs (edition, (limit, (input, (store, (result, tt))))) tt (edition, (limit, (input, (store′, (result′, tt)))))
+
+abbrev pub TandrekilyAvpBy : Lfts 3 → ℕ → ℕ → Slice → Slice → Slice → Slice → Slice → Type 0
+TandrekilyAvpBy κs edition limit input store result store′ result′ =
+    tandrekily-avp-by.Post κs (edition, (limit, (input, (store, (result, tt))))) tt (edition, (limit, (input, (store′, (result′, tt)))))
+
+abbrev pub TandrekilyCompare : Lfts 1 → ℤ → ℤ → ℤ → ℤ → RefT ℤ → ℕ → RefT ℤ → Type 0
+TandrekilyCompare κs digits exponent otherDigits otherExponent order r order′ =
+    tandrekily-compare.Post κs (digits, (exponent, (otherDigits, (otherExponent, (order, tt))))) r
+    (digits, (exponent, (otherDigits, (otherExponent, (order′, tt)))))
 
 abbrev pub TandrekilyFind : Lfts 2 → Slice → ℕ → Slice → Slice → Type 0
 TandrekilyFind κs input code result result′ = tandrekily-find.Post κs (input, (code, (result, tt))) tt (input, (code, (result′, tt)))
