@@ -1,16 +1,17 @@
-// Tandrekily for C and C++: decodes and writes Diameter messages (RFC 6733). Link libtandrekily.a, for x86-64 Linux.
+// Tandrekily for C and C++: decodes and writes Diameter messages (RFC 6733), those of credit-control too (RFC 4006, RFC 8506).
+// Link libtandrekily.a, for x86-64 Linux.
 //
 // What a caller passes:
 //   - With each pointer that has a length, so many bytes that may be read; those of `store` and `out` may be written too.
-//   - `result` points to TANDREKILY_RESULT numbers, and `outline` to TANDREKILY_OUTLINE.
+//   - `result` points to TANDREKILY_RESULT numbers, `outline` to TANDREKILY_OUTLINE, and `order` to one.
 //   - No null pointer. Where a length is 0, any other pointer does, and nothing is read or written through it.
-//   - `store`, `out`, `result` and `outline` share no byte with anything else that is passed.
+//   - `store`, `out`, `result`, `outline` and `order` share no byte with anything else that is passed.
 // Nothing else is asked: each function answers for any bytes and any numbers. Before a call the bytes of `store`, `out`,
-// `result` and `outline` may be anything.
+// `result`, `outline` and `order` may be anything.
 //
 // What a caller gets:
 //   - `result` and `outline` are written whole by every call, with zeros where nothing is returned.
-//   - A refusal changes no byte of `store` or `out`.
+//   - A refusal changes no byte of `store`, `out` or `order`.
 //   - Nothing is allocated or kept between calls, so calls may run in several threads at once.
 //   - A call takes less than 64 KiB of stack; bench/stack measures it at the deepest nesting.
 //   - An acceptance writes the whole of `store`: the records, and zero after them. So lend no more than the message needs: a
@@ -61,7 +62,9 @@ enum tandrekily_answer {
     TANDREKILY_BAD_HEADER = 8,  // the command code is over 16,777,215
     TANDREKILY_BAD_TABLE = 9,   // the amount is the index of the first bad record, or the record count if bytes are left over
     TANDREKILY_TOO_LONG = 10,   // the message would be over 16,777,215 bytes
-    TANDREKILY_NO_ROOM = 11     // the output is too short; the amount is the bytes needed
+    TANDREKILY_NO_ROOM = 11,    // the output is too short; the amount is the bytes needed
+    TANDREKILY_BAD_EDITION = 12, // the edition is neither 4006 nor 8506
+    TANDREKILY_BAD_EXPONENT = 13 // an exponent is not -18..18
 };
 
 // Bits, joined by or.
@@ -87,7 +90,8 @@ enum tandrekily_record {
     TANDREKILY_RECORD_PADDING = 19, // 1: how many bytes of padding, 0..3
     TANDREKILY_RECORD_PADS = 20,    // 3: these bytes, then zeros
     TANDREKILY_RECORD_ZERO = 23,    // 1
-    TANDREKILY_RECORD_VALUE = 24,   // 8: a number, an Enumerated as its 32 bits, an IPv4 address; else 0
+    TANDREKILY_RECORD_VALUE = 24,   // 8: a number, an Integer32 or Enumerated as its 32 bits, an Integer64 as its 64, an IPv4
+                                    // address; else 0
     TANDREKILY_RECORD_SIZE = 32
 };
 
@@ -101,11 +105,11 @@ enum tandrekily_avp_head {
 enum tandrekily_kind {
     TANDREKILY_UNHANDLED = 0,   // an unknown code, or data that are not of the code's kind
     TANDREKILY_OCTET_STRING = 1,
-    TANDREKILY_INTEGER_32 = 2,  // no code has kind 2, 3, 6 or 7
+    TANDREKILY_INTEGER_32 = 2,  // codes of the editions alone have kind 2 or 3
     TANDREKILY_INTEGER_64 = 3,
     TANDREKILY_UNSIGNED_32 = 4,
     TANDREKILY_UNSIGNED_64 = 5,
-    TANDREKILY_FLOAT_32 = 6,
+    TANDREKILY_FLOAT_32 = 6,    // no code has kind 6 or 7
     TANDREKILY_FLOAT_64 = 7,
     TANDREKILY_GROUPED = 8,
     TANDREKILY_ENUMERATED = 9,
@@ -137,6 +141,25 @@ void tandrekily_header(const uint8_t *input, size_t input_length, uint64_t resul
 //   refused, in this order: BAD_DEPTH, INCOMPLETE or BAD_LENGTH, TOO_DEEP, NO_RECORDS
 void tandrekily_avp(bool rfc, size_t limit, const uint8_t *input, size_t input_length, uint8_t *store, size_t store_length,
                     uint64_t result[TANDREKILY_RESULT]);
+
+// ---- decoding by an edition
+
+// The editions of the credit-control dictionary, by the numbers of their RFCs. The codes and kinds of section 8 there are added to
+// those of RFC 6733, and all else is as that one says.
+enum tandrekily_edition {
+    TANDREKILY_RFC_4006 = 4006,
+    TANDREKILY_RFC_8506 = 8506
+};
+
+// As `tandrekily_message`, by an edition.
+//   refused besides: BAD_EDITION, after BAD_DEPTH and before the rest
+void tandrekily_message_by(uint32_t edition, size_t limit, const uint8_t *input, size_t input_length, uint8_t *store,
+                           size_t store_length, uint64_t result[TANDREKILY_RESULT]);
+
+// As `tandrekily_avp`, by an edition.
+//   refused besides: BAD_EDITION, after BAD_DEPTH and before the rest
+void tandrekily_avp_by(uint32_t edition, size_t limit, const uint8_t *input, size_t input_length, uint8_t *store,
+                       size_t store_length, uint64_t result[TANDREKILY_RESULT]);
 
 // ---- one AVP of a message
 
@@ -189,6 +212,27 @@ bool tandrekily_is_utf8(const uint8_t *text, size_t text_length);
 
 // The value of a Time, seconds since 1900, in Unix seconds: `time` - 2,208,988,800.
 int64_t tandrekily_unix_seconds(uint32_t time);
+
+// The number behind the value of an Integer32, and of an Enumerated where RFC 6733 is followed.
+int32_t tandrekily_integer32(uint32_t bits);
+
+// The number behind the value of an Integer64.
+int64_t tandrekily_integer64(uint64_t bits);
+
+// ---- Unit-Values
+
+// How the first of two numbers stands to the second.
+enum tandrekily_order {
+    TANDREKILY_LESS = -1,
+    TANDREKILY_EQUAL = 0,
+    TANDREKILY_GREATER = 1
+};
+
+// Compares two Unit-Values exactly, each its Value-Digits times ten to its Exponent. Where a Unit-Value has no Exponent it is 0
+// (RFC 4006 and RFC 8506, section 8.8).
+//   accepted: 0 is returned, and `order` is one of the above
+//   refused: BAD_EXPONENT is returned, and `order` stays as it was
+uint8_t tandrekily_compare(int64_t digits, int32_t exponent, int64_t other_digits, int32_t other_exponent, int32_t *order);
 
 #ifdef __cplusplus
 }

@@ -76,7 +76,20 @@ static void check_refusal(const char *name, uint64_t number, uint64_t amount, co
 #define CLASS "00000019 00 000009 FF 000000"
 #define ADDRESS "00000101 00 00000E 0001 C0000201 0000"
 
-typedef void decoder(bool, size_t, const uint8_t *, size_t, uint8_t *, size_t, uint64_t *);
+// A decoder takes a reading or the number of an edition.
+typedef void decoder(uint32_t, size_t, const uint8_t *, size_t, uint8_t *, size_t, uint64_t *);
+
+enum { SAWP, RFC };
+
+static void message(uint32_t reading, size_t limit, const uint8_t *input, size_t length, uint8_t *store, size_t room,
+                    uint64_t *result) {
+    tandrekily_message(reading == RFC, limit, input, length, store, room, result);
+}
+
+static void avp(uint32_t reading, size_t limit, const uint8_t *input, size_t length, uint8_t *store, size_t room,
+                uint64_t *result) {
+    tandrekily_avp(reading == RFC, limit, input, length, store, room, result);
+}
 
 struct refusal {
     const char *name;
@@ -116,62 +129,68 @@ static const struct refusal avps_refused[] = {
     {"AVP: no room", 64, 0, RESULT_CODE, 6, 1},
 };
 
-// A refusal leaves the store as it was lent, whatever the reading.
-static void refuses(decoder *decode, const struct refusal *r) {
+// A refusal leaves the store as it was lent.
+static void refuses(decoder *decode, uint32_t by, const struct refusal *r) {
     uint8_t input[MOST], store[MOST];
     uint64_t result[TANDREKILY_RESULT];
     size_t length = bytes_of(r->input, input);
-    for (int rfc = 0; rfc < 2; rfc++) {
-        memset(store, LENT, sizeof store);
-        spoil(TANDREKILY_RESULT, result);
-        decode(rfc == 1, r->limit, input, length, store, r->room, result);
-        check_refusal(r->name, r->number, r->amount, result);
-        check(r->name, "the store was changed", all(LENT, store, sizeof store));
-    }
+    memset(store, LENT, sizeof store);
+    spoil(TANDREKILY_RESULT, result);
+    decode(by, r->limit, input, length, store, r->room, result);
+    check_refusal(r->name, r->number, r->amount, result);
+    check(r->name, "the store was changed", all(LENT, store, sizeof store));
+}
+
+// What is refused by one reading is by the other, and by each edition.
+static void refuse(decoder *decode, decoder *decode_by, const struct refusal *r) {
+    refuses(decode, SAWP, r);
+    refuses(decode, RFC, r);
+    refuses(decode_by, TANDREKILY_RFC_4006, r);
+    refuses(decode_by, TANDREKILY_RFC_8506, r);
 }
 
 struct acceptance {
     const char *name;
-    bool rfc;
+    uint32_t by;
     size_t limit;
     const char *input, *records;
     uint64_t result[TANDREKILY_RESULT];
 };
 
 static const struct acceptance messages_accepted[] = {
-    {"no AVP (P7)", false, 1, MESSAGE("14"), "", {0, 0, 0, 0, 0, 20, 1, 20}},
-    {"every header field, and a byte more", false, 1, "01000014 C5000110 00000003 01020304 05060708 FF", "",
+    {"no AVP (P7)", SAWP, 1, MESSAGE("14"), "", {0, 0, 0, 0, 0, 20, 1, 20}},
+    {"every header field, and a byte more", SAWP, 1, "01000014 C5000110 00000003 01020304 05060708 FF", "",
      {0, 0, 4, 0, 0, 20, 1, 20, 0xC5, 0x110, 3, 0x01020304, 0x05060708}},
-    {"P8", false, 64, MESSAGE("24") RESULT_CODE, "0000010C 00 00000D 00000000 0000001C 01 04 02 03 00000000 00000000 000007D1",
+    {"P8", SAWP, 64, MESSAGE("24") RESULT_CODE, "0000010C 00 00000D 00000000 0000001C 01 04 02 03 00000000 00000000 000007D1",
      {0, 0, 2, 1, 1, 36, 1, 36}},
-    {"a group that does not tile (P11)", false, 2, MESSAGE("20") FAILING,
+    {"a group that does not tile (P11)", SAWP, 2, MESSAGE("20") FAILING,
      "00000117 00 000009 00000000 0000001C 01 00 01 03 00000000 00000000 00000000", {0, 0, 1, 1, 2, 32, 1, 32}},
-    {"a group without members (P12)", false, 1, MESSAGE("1C") EMPTY_GROUP,
+    {"a group without members (P12)", SAWP, 1, MESSAGE("1C") EMPTY_GROUP,
      "00000117 00 000008 00000000 0000001C 01 08 00 00 00000000 00000000 00000000", {0, 0, 0, 1, 1, 28, 1, 28}},
-    {"a group in a group", true, 3, MESSAGE("30") NESTED,
+    {"a group in a group", RFC, 3, MESSAGE("30") NESTED,
      "00000117 00 00001C 00000000 0000001C 01 08 00 00 00000000 00000000 00000000"
      "0000011C 00 000014 00000000 00000024 02 08 00 00 00000000 00000000 00000000"
      "0000010B 00 00000C 00000000 0000002C 03 04 00 00 00000000 00000000 00000001",
      {0, 0, 0, 3, 3, 48, 1, 48}},
-    {"Class is text as the Rust reads it", false, 64, MESSAGE("20") CLASS,
+    {"Class is text as the Rust reads it", SAWP, 64, MESSAGE("20") CLASS,
      "00000019 00 000009 00000000 0000001C 01 00 01 03 00000000 00000000 00000000", {0, 0, 1, 1, 1, 32, 1, 32}},
-    {"Class is any bytes by the RFC", true, 64, MESSAGE("20") CLASS,
+    {"Class is any bytes by the RFC", RFC, 64, MESSAGE("20") CLASS,
      "00000019 00 000009 00000000 0000001C 01 01 00 03 00000000 00000000 00000000", {0, 0, 0, 1, 1, 32, 1, 32}},
 };
 
 static const struct acceptance avps_accepted[] = {
-    {"AVP: P8's, and a byte more", false, 1, RESULT_CODE "FF",
+    {"AVP: P8's, and a byte more", SAWP, 1, RESULT_CODE "FF",
      "0000010C 00 00000D 00000000 00000008 01 04 02 03 00000000 00000000 000007D1", {0, 0, 2, 1, 1, 16}},
-    {"AVP: an address has no family as the Rust reads it", false, 1, ADDRESS,
+    {"AVP: an address has no family as the Rust reads it", SAWP, 1, ADDRESS,
      "00000101 00 00000E 00000000 00000008 01 00 02 02 00000000 00000000 00000000", {0, 0, 2, 1, 1, 16}},
-    {"AVP: an address has a family by the RFC", true, 1, ADDRESS,
+    {"AVP: an address has a family by the RFC", RFC, 1, ADDRESS,
      "00000101 00 00000E 00000000 00000008 01 0D 00 02 00000000 00000000 C0000201", {0, 0, 0, 1, 1, 16}},
-    {"AVP: vendor, reserved bits and padding", false, 1, "0000002C 9F 00000E 000028AF ABCD 1234",
+    {"AVP: vendor, reserved bits and padding", SAWP, 1, "0000002C 9F 00000E 000028AF ABCD 1234",
      "0000002C 9F 00000E 000028AF 0000000C 01 01 0C 02 12340000 00000000 00000000", {0, 0, 12, 1, 1, 16}},
 };
 
 // The store ends with the last record, or has room for five bytes or a record and five bytes more: all zero then.
-static void accepts(decoder *decode, const struct acceptance *a) {
+static void accepts(decoder *decode, uint32_t by, const struct acceptance *a) {
     static const size_t spare[] = {0, 5, TANDREKILY_RECORD_SIZE + 5};
     uint8_t input[MOST], store[MOST];
     uint64_t result[TANDREKILY_RESULT];
@@ -181,7 +200,7 @@ static void accepts(decoder *decode, const struct acceptance *a) {
         size_t room = used + spare[i];
         memset(store, LENT, sizeof store);
         spoil(TANDREKILY_RESULT, result);
-        decode(a->rfc, a->limit, input, length, store, room, result);
+        decode(by, a->limit, input, length, store, room, result);
         check_result(a->name, a->result, result);
         check(a->name, "the records are others", is_hex(a->records, store));
         check(a->name, "the store is not zero after the last record", all(0, store + used, spare[i]));
@@ -189,13 +208,142 @@ static void accepts(decoder *decode, const struct acceptance *a) {
     }
 }
 
+// An edition keeps what the RFC reading has.
+static void accept(decoder *decode, decoder *decode_by, const struct acceptance *a) {
+    accepts(decode, a->by, a);
+    if (a->by != RFC) return;
+    accepts(decode_by, TANDREKILY_RFC_4006, a);
+    accepts(decode_by, TANDREKILY_RFC_8506, a);
+}
+
 static void decoders(void) {
     for (size_t i = 0; i < sizeof messages_refused / sizeof *messages_refused; i++)
-        refuses(tandrekily_message, &messages_refused[i]);
-    for (size_t i = 0; i < sizeof avps_refused / sizeof *avps_refused; i++) refuses(tandrekily_avp, &avps_refused[i]);
+        refuse(message, tandrekily_message_by, &messages_refused[i]);
+    for (size_t i = 0; i < sizeof avps_refused / sizeof *avps_refused; i++)
+        refuse(avp, tandrekily_avp_by, &avps_refused[i]);
     for (size_t i = 0; i < sizeof messages_accepted / sizeof *messages_accepted; i++)
-        accepts(tandrekily_message, &messages_accepted[i]);
-    for (size_t i = 0; i < sizeof avps_accepted / sizeof *avps_accepted; i++) accepts(tandrekily_avp, &avps_accepted[i]);
+        accept(message, tandrekily_message_by, &messages_accepted[i]);
+    for (size_t i = 0; i < sizeof avps_accepted / sizeof *avps_accepted; i++)
+        accept(avp, tandrekily_avp_by, &avps_accepted[i]);
+}
+
+// ---- editions
+
+#define EXPONENT "000001AD 40 00000C FFFFFFFE"
+#define DIGITS "000001BF 40 000010 FFFFFFFF FFFFFFFD"
+#define UNIT_VALUE "000001BD 40 000024" DIGITS EXPONENT
+#define UNIT_VALUE_RECORDS                                                         \
+    "000001BD 40 000024 00000000 0000001C 01 08 00 00 00000000 00000000 00000000"  \
+    "000001BF 40 000010 00000000 00000024 02 03 00 00 00000000 FFFFFFFF FFFFFFFD"  \
+    "000001AD 40 00000C 00000000 00000034 02 02 00 00 00000000 00000000 FFFFFFFE"
+#define EQUIPMENT "0000028D 40 000014 0000028E 40 00000C 01020304"
+
+// By no edition. A limit that is bad too is answered first, and an input that is empty, cut off or of no version after it.
+static const struct refusal no_edition[] = {
+    {"no edition", 64, 64, MESSAGE("14"), 12, 0},
+    {"no edition: empty input", 1, 64, "", 12, 0},
+    {"no edition: version 2", 64, 64, "02", 12, 0},
+    {"no edition: no room", 64, 0, MESSAGE("24") RESULT_CODE, 12, 0},
+    {"no edition: limit 0", 0, 64, MESSAGE("14"), 7, 0},
+    {"no edition: limit 65 and empty input", 65, 64, "", 7, 0},
+};
+
+// Numbers beside those of the editions, and one whose low 16 bits are 4006.
+static const uint32_t none[] = {0, 1, 4005, 4007, 6733, 8505, 8507, 69542, 74042, UINT32_MAX};
+
+// By either edition the members of a Unit-Value count.
+static const struct refusal messages_refused_by[] = {
+    {"a Unit-Value at limit 1", 1, 128, MESSAGE("38") UNIT_VALUE, 5, 0},
+    {"room for two of a Unit-Value and its members", 64, 95, MESSAGE("38") UNIT_VALUE, 6, 3},
+};
+
+static const struct refusal avps_refused_by[] = {
+    {"AVP: a Unit-Value at limit 1", 1, 128, UNIT_VALUE, 5, 0},
+    {"AVP: room for two of a Unit-Value and its members", 64, 95, UNIT_VALUE, 6, 3},
+};
+
+static const struct acceptance messages_by[] = {
+    {"a Unit-Value of -3 and -2 by RFC 4006", TANDREKILY_RFC_4006, 2, MESSAGE("38") UNIT_VALUE,
+     UNIT_VALUE_RECORDS, {0, 0, 0, 3, 3, 56, 1, 56}},
+    {"a Unit-Value of -3 and -2 by RFC 8506", TANDREKILY_RFC_8506, 2, MESSAGE("38") UNIT_VALUE,
+     UNIT_VALUE_RECORDS, {0, 0, 0, 3, 3, 56, 1, 56}},
+    {"User-Equipment-Info-Extension by RFC 4006", TANDREKILY_RFC_4006, 1, MESSAGE("28") EQUIPMENT,
+     "0000028D 40 000014 00000000 0000001C 01 00 00 00 00000000 00000000 00000000", {0, 0, 0, 1, 1, 40, 1, 40}},
+    {"User-Equipment-Info-Extension by RFC 8506", TANDREKILY_RFC_8506, 2, MESSAGE("28") EQUIPMENT,
+     "0000028D 40 000014 00000000 0000001C 01 08 00 00 00000000 00000000 00000000"
+     "0000028E 40 00000C 00000000 00000024 02 01 00 00 00000000 00000000 00000000",
+     {0, 0, 0, 2, 2, 40, 1, 40}},
+};
+
+static const struct acceptance avps_by[] = {
+    {"AVP: CC-Correlation-Id is any bytes", TANDREKILY_RFC_4006, 1, "0000019B 00 000009 FF 000000",
+     "0000019B 00 000009 00000000 00000008 01 01 00 03 00000000 00000000 00000000", {0, 0, 0, 1, 1, 12}},
+    {"AVP: Exponent is an Integer32", TANDREKILY_RFC_4006, 1, EXPONENT,
+     "000001AD 40 00000C 00000000 00000008 01 02 00 00 00000000 00000000 FFFFFFFE", {0, 0, 0, 1, 1, 12}},
+    {"AVP: an Exponent of 5 bytes", TANDREKILY_RFC_8506, 1, "000001AD 40 00000D 80000000 00 000000",
+     "000001AD 40 00000D 00000000 00000008 01 02 02 03 00000000 00000000 80000000", {0, 0, 2, 1, 1, 16}},
+    {"AVP: an Exponent of 3 bytes", TANDREKILY_RFC_8506, 1, "000001AD 40 00000B 000001 00",
+     "000001AD 40 00000B 00000000 00000008 01 00 02 01 00000000 00000000 00000000", {0, 0, 2, 1, 1, 12}},
+    {"AVP: Value-Digits is an Integer64", TANDREKILY_RFC_8506, 1, DIGITS,
+     "000001BF 40 000010 00000000 00000008 01 03 00 00 00000000 FFFFFFFF FFFFFFFD", {0, 0, 0, 1, 1, 16}},
+    {"AVP: Value-Digits of 9 bytes", TANDREKILY_RFC_4006, 1, "000001BF 40 000011 80000000 00000001 00 000000",
+     "000001BF 40 000011 00000000 00000008 01 03 02 03 00000000 80000000 00000001", {0, 0, 2, 1, 1, 20}},
+    {"AVP: Value-Digits of 4 bytes", TANDREKILY_RFC_4006, 1, "000001BF 40 00000C 00000001",
+     "000001BF 40 00000C 00000000 00000008 01 00 02 00 00000000 00000000 00000000", {0, 0, 2, 1, 1, 12}},
+    {"AVP: Currency-Code is an Unsigned32", TANDREKILY_RFC_4006, 1, "000001A9 00 00000C 000003D2",
+     "000001A9 00 00000C 00000000 00000008 01 04 00 00 00000000 00000000 000003D2", {0, 0, 0, 1, 1, 12}},
+    {"AVP: CC-Total-Octets is an Unsigned64", TANDREKILY_RFC_8506, 1, "000001A5 00 000010 80000000 00000001",
+     "000001A5 00 000010 00000000 00000008 01 05 00 00 00000000 80000000 00000001", {0, 0, 0, 1, 1, 16}},
+    {"AVP: CC-Money is a group", TANDREKILY_RFC_8506, 1, "0000019D 00 000008",
+     "0000019D 00 000008 00000000 00000008 01 08 00 00 00000000 00000000 00000000", {0, 0, 0, 1, 1, 8}},
+    {"AVP: CC-Request-Type is an Enumerated", TANDREKILY_RFC_4006, 1, "000001A0 00 00000C FFFFFFFF",
+     "000001A0 00 00000C 00000000 00000008 01 09 00 00 00000000 00000000 FFFFFFFF", {0, 0, 0, 1, 1, 12}},
+    {"AVP: Cost-Unit is text", TANDREKILY_RFC_4006, 1, "000001A8 00 00000A C3A9 0000",
+     "000001A8 00 00000A 00000000 00000008 01 0A 00 02 00000000 00000000 00000000", {0, 0, 0, 1, 1, 12}},
+    {"AVP: Redirect-Address-IPAddress by RFC 8506", TANDREKILY_RFC_8506, 1, "0000029A 00 00000E 0001 C0000201 0000",
+     "0000029A 00 00000E 00000000 00000008 01 0D 00 02 00000000 00000000 C0000201", {0, 0, 0, 1, 1, 16}},
+    {"AVP: Redirect-Address-IPAddress by RFC 4006", TANDREKILY_RFC_4006, 1, "0000029A 00 00000E 0001 C0000201 0000",
+     "0000029A 00 00000E 00000000 00000008 01 00 00 02 00000000 00000000 00000000", {0, 0, 0, 1, 1, 16}},
+    {"AVP: Tariff-Time-Change is a Time", TANDREKILY_RFC_8506, 1, "000001C3 00 00000C 83AA7E80",
+     "000001C3 00 00000C 00000000 00000008 01 0E 00 00 00000000 00000000 83AA7E80", {0, 0, 0, 1, 1, 12}},
+    {"AVP: Restriction-Filter-Rule is any bytes", TANDREKILY_RFC_4006, 1, "000001B6 00 000009 FF 000000",
+     "000001B6 00 000009 00000000 00000008 01 01 00 03 00000000 00000000 00000000", {0, 0, 0, 1, 1, 12}},
+    {"AVP: a vendor's Exponent", TANDREKILY_RFC_8506, 1, "000001AD 80 000010 000028AF 00000001",
+     "000001AD 80 000010 000028AF 0000000C 01 00 00 00 00000000 00000000 00000000", {0, 0, 0, 1, 1, 16}},
+};
+
+// The readings have no code of the editions.
+static const struct acceptance without_edition[] = {
+    {"AVP: Exponent is unknown as the Rust reads it", SAWP, 1, EXPONENT,
+     "000001AD 40 00000C 00000000 00000008 01 00 00 00 00000000 00000000 00000000", {0, 0, 0, 1, 1, 12}},
+    {"AVP: Exponent is unknown by RFC 6733", RFC, 1, EXPONENT,
+     "000001AD 40 00000C 00000000 00000008 01 00 00 00 00000000 00000000 00000000", {0, 0, 0, 1, 1, 12}},
+};
+
+static void edition_refusals(void) {
+    for (size_t i = 0; i < sizeof none / sizeof *none; i++) {
+        for (size_t j = 0; j < sizeof no_edition / sizeof *no_edition; j++) {
+            refuses(tandrekily_message_by, none[i], &no_edition[j]);
+            refuses(tandrekily_avp_by, none[i], &no_edition[j]);
+        }
+    }
+    for (size_t i = 0; i < sizeof messages_refused_by / sizeof *messages_refused_by; i++) {
+        refuses(tandrekily_message_by, TANDREKILY_RFC_4006, &messages_refused_by[i]);
+        refuses(tandrekily_message_by, TANDREKILY_RFC_8506, &messages_refused_by[i]);
+    }
+    for (size_t i = 0; i < sizeof avps_refused_by / sizeof *avps_refused_by; i++) {
+        refuses(tandrekily_avp_by, TANDREKILY_RFC_4006, &avps_refused_by[i]);
+        refuses(tandrekily_avp_by, TANDREKILY_RFC_8506, &avps_refused_by[i]);
+    }
+}
+
+static void editions(void) {
+    edition_refusals();
+    for (size_t i = 0; i < sizeof messages_by / sizeof *messages_by; i++)
+        accepts(tandrekily_message_by, messages_by[i].by, &messages_by[i]);
+    for (size_t i = 0; i < sizeof avps_by / sizeof *avps_by; i++) accepts(tandrekily_avp_by, avps_by[i].by, &avps_by[i]);
+    for (size_t i = 0; i < sizeof without_edition / sizeof *without_edition; i++)
+        accepts(avp, without_edition[i].by, &without_edition[i]);
 }
 
 // ---- the header alone
@@ -458,8 +606,91 @@ static void times(void) {
     seconds(UINT32_MAX, INT64_C(2085978495));
 }
 
+static void signs(void) {
+    static const int32_t short_numbers[] = {0, 1, INT32_MAX, INT32_MIN, -2, -1};
+    static const int64_t long_numbers[] = {0, 1, INT32_MAX, UINT32_MAX, INT64_MAX, INT64_MIN, INT32_MIN, -2, -1};
+    for (size_t i = 0; i < sizeof short_numbers / sizeof *short_numbers; i++)
+        check("integer32", "another number", tandrekily_integer32((uint32_t)short_numbers[i]) == short_numbers[i]);
+    for (size_t i = 0; i < sizeof long_numbers / sizeof *long_numbers; i++)
+        check("integer64", "another number", tandrekily_integer64((uint64_t)long_numbers[i]) == long_numbers[i]);
+}
+
+// ---- Unit-Values
+
+enum { REFUSED = 2, UNASKED = 0x5A5A5A5A };
+
+// How the first stands to the second, or that an exponent is refused.
+struct comparison {
+    const char *name;
+    int64_t digits;
+    int32_t exponent;
+    int64_t other_digits;
+    int32_t other_exponent;
+    int32_t order;
+};
+
+static const struct comparison comparisons[] = {
+    {"compare: zero", 0, 0, 0, 0, 0},
+    {"compare: zeros far apart", 0, -18, 0, 18, 0},
+    {"compare: a zero and one", 0, 18, 1, -18, -1},
+    {"compare: a zero and less", 0, -18, -1, -18, 1},
+    {"compare: less and more", -1, 18, 1, -18, -1},
+    {"compare: the same", 150, -1, 150, -1, 0},
+    {"compare: the same, other digits", 15, 0, 150, -1, 0},
+    {"compare: the same, below zero", -15, 0, -150, -1, 0},
+    {"compare: the larger exponent is less", 15, 0, 151, -1, -1},
+    {"compare: the larger exponent is more", 15, 0, 149, -1, 1},
+    {"compare: the larger exponent is more, below zero", -15, 0, -151, -1, 1},
+    {"compare: the larger exponent is less, below zero", -15, 0, -149, -1, -1},
+    {"compare: same exponents", 7, 3, 8, 3, -1},
+    {"compare: same exponents, below zero", -7, 3, -8, 3, 1},
+    {"compare: the ends of 64 bits", INT64_MIN, 0, INT64_MAX, 0, -1},
+    {"compare: the least, twice", INT64_MIN, -18, INT64_MIN, -18, 0},
+    {"compare: the least, one exponent apart", INT64_MIN, 1, INT64_MIN, 0, -1},
+    {"compare: the largest, one exponent apart", INT64_MAX, 1, INT64_MAX, 0, 1},
+    {"compare: the ends of both", INT64_MAX, 18, INT64_MAX, -18, 1},
+    {"compare: the ends of both, below zero", INT64_MIN, 18, INT64_MIN, -18, -1},
+    {"compare: 10 to the 36 apart", 1, 18, INT64_MAX, -18, 1},
+    {"compare: past what a double holds", INT64_C(9007199254740993), 0, INT64_C(9007199254740992), 0, 1},
+    {"compare: past what a double holds, moved", INT64_C(922337203685477580), 1, INT64_C(9223372036854775801), 0, -1},
+    {"compare: 10 to the 18 as digits", 1, 18, INT64_C(1000000000000000000), 0, 0},
+    {"compare: 10 to the 18 less one as digits", 1, 0, INT64_C(999999999999999999), -18, 1},
+    {"compare: a product of 64 bits that wraps to 0", INT64_C(4611686018427387904), 1, 1, 0, 1},
+    {"compare: exponents at the ends", 1, -18, 1, 18, -1},
+    {"compare: exponent 19", 1, 19, 1, 0, REFUSED},
+    {"compare: exponent -19", 1, -19, 1, 0, REFUSED},
+    {"compare: the other's exponent 19", 1, 0, 1, 19, REFUSED},
+    {"compare: the other's exponent -19", 1, 0, 1, -19, REFUSED},
+    {"compare: both exponents 19", 1, 19, 1, 19, REFUSED},
+    {"compare: zero with exponent 19", 0, 19, 0, 0, REFUSED},
+    {"compare: two signs with exponent -19", -1, -19, 1, 0, REFUSED},
+    {"compare: the ends of 32 bits", 1, INT32_MIN, 1, INT32_MAX, REFUSED},
+    {"compare: an exponent that is 0 in its low bytes", 1, 65536, 1, 0, REFUSED},
+};
+
+// A refusal leaves the order as it was lent.
+static void compare(const char *name, int64_t digits, int32_t exponent, int64_t other_digits, int32_t other_exponent,
+                    int32_t order) {
+    bool refused = order == REFUSED;
+    int32_t given = UNASKED;
+    uint8_t number = tandrekily_compare(digits, exponent, other_digits, other_exponent, &given);
+    check(name, "another answer", number == (refused ? TANDREKILY_BAD_EXPONENT : TANDREKILY_ACCEPTED));
+    check(name, "another order", given == (refused ? UNASKED : order));
+}
+
+// The other way round the order is the opposite.
+static void unit_values(void) {
+    for (size_t i = 0; i < sizeof comparisons / sizeof *comparisons; i++) {
+        const struct comparison *c = &comparisons[i];
+        int32_t opposite = c->order == REFUSED ? REFUSED : -c->order;
+        compare(c->name, c->digits, c->exponent, c->other_digits, c->other_exponent, c->order);
+        compare(c->name, c->other_digits, c->other_exponent, c->digits, c->exponent, opposite);
+    }
+}
+
 int main(void) {
     decoders();
+    editions();
     headers();
     searches();
     steps();
@@ -467,6 +698,8 @@ int main(void) {
     writer();
     texts();
     times();
+    signs();
+    unit_values();
     printf("%d failures\n", failures);
     return failures == 0 ? 0 : 1;
 }

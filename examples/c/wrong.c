@@ -20,12 +20,26 @@ bool __real_tandrekily_is_utf8(const uint8_t *, size_t);
 bool __wrap_tandrekily_is_utf8(const uint8_t *, size_t);
 int64_t __real_tandrekily_unix_seconds(uint32_t);
 int64_t __wrap_tandrekily_unix_seconds(uint32_t);
+typedef void decoder_by(uint32_t, size_t, const uint8_t *, size_t, uint8_t *, size_t, uint64_t *);
+decoder_by __real_tandrekily_message_by, __wrap_tandrekily_message_by;
+decoder_by __real_tandrekily_avp_by, __wrap_tandrekily_avp_by;
+int32_t __real_tandrekily_integer32(uint32_t);
+int32_t __wrap_tandrekily_integer32(uint32_t);
+int64_t __real_tandrekily_integer64(uint64_t);
+int64_t __wrap_tandrekily_integer64(uint64_t);
+typedef uint8_t comparer(int64_t, int32_t, int64_t, int32_t, int32_t *);
+comparer __real_tandrekily_compare, __wrap_tandrekily_compare;
 
 // Each function's ways to be wrong are numbered from a hundred of its own; the first are the numbers of its result or outline.
 enum { MESSAGE = 100, AVP = 200, HEADER = 300, WRITE = 400, IS_UTF8 = 500, UNIX_SECONDS = 600, FIND = 700, NEXT = 800 };
+enum { MESSAGE_BY = 900, AVP_BY = 1000, INTEGER32 = 1100, INTEGER64 = 1200, COMPARE = 1300 };
 enum { TOUCHED_IF_REFUSED = 20, TAIL_IF_ACCEPTED = 21, OTHER_READING = 22, OTHER_LIMIT = 23, BYTE = 40 };
 enum { OTHER_CODE = 24, LAST = 25, NONE_IF_NOT_TILED = 26, NOT_TILED_IF_NONE = 27 };
 enum { STAYS = 28, FURTHER = 29, LATER = 30 };
+enum { OTHER_EDITION = 31, ANY_EDITION, LOW_BITS, EDITION_BEFORE_LIMIT, INPUT_BEFORE_EDITION, NO_EDITION, SIGN_EXTENDED };
+enum { OFF_BY_ONE, NO_SIGN };
+enum { OTHER_ANSWER, OPPOSITE, NEVER_EQUAL, ORDER_IF_REFUSED, TAKES_19, TAKES_MINUS_19, REFUSES_18, REFUSES_MINUS_18 };
+enum { EXPONENT_LOW_BITS = 8, NO_EXPONENTS, FIRST_ALONE, SECOND_ALONE, ZEROS_TAKEN, SIGNS_TAKEN, DOUBLES, WRAPPED, WHOLE };
 
 static int wrong(int function) {
     return atoi(getenv("WRONG")) - function;
@@ -113,4 +127,131 @@ bool __wrap_tandrekily_is_utf8(const uint8_t *text, size_t n) {
 
 int64_t __wrap_tandrekily_unix_seconds(uint32_t time) {
     return __real_tandrekily_unix_seconds(time) + (wrong(UNIX_SECONDS) == 0);
+}
+
+// ---- by an edition
+
+static bool is_edition(uint32_t edition) {
+    return edition == TANDREKILY_RFC_4006 || edition == TANDREKILY_RFC_8506;
+}
+
+// The edition that is asked for in place of the one given; `n` bytes are the input.
+static uint32_t edition_asked(int way, uint32_t edition, size_t n) {
+    if (way == OTHER_EDITION && is_edition(edition)) return TANDREKILY_RFC_4006 + TANDREKILY_RFC_8506 - edition;
+    if (way == ANY_EDITION && !is_edition(edition)) return TANDREKILY_RFC_8506;
+    if (way == INPUT_BEFORE_EDITION && n == 0) return TANDREKILY_RFC_8506;
+    return way == LOW_BITS ? (uint16_t)edition : edition;
+}
+
+static size_t limit_asked(int way, uint32_t edition, size_t limit) {
+    return way == EDITION_BEFORE_LIMIT && !is_edition(edition) ? 64 : limit + (way == OTHER_LIMIT);
+}
+
+// An Integer32 below zero as 64 bits.
+static void extend_signs(uint8_t *store, uint64_t records) {
+    for (uint8_t *record = store; records > 0; records--, record += TANDREKILY_RECORD_SIZE) {
+        uint8_t *value = record + TANDREKILY_RECORD_VALUE;
+        if (record[TANDREKILY_RECORD_KIND] == TANDREKILY_INTEGER_32 && value[4] >= 0x80) memset(value, 0xFF, 4);
+    }
+}
+
+static void spoil_decoder_by(int way, decoder_by *decode_by, decoder *decode, uint32_t edition, size_t limit, const uint8_t *input,
+                             size_t n, uint8_t *store, size_t room, uint64_t *result) {
+    limit = limit_asked(way, edition, limit);
+    if (way == NO_EDITION && is_edition(edition)) decode(true, limit, input, n, store, room, result);
+    else decode_by(edition_asked(way, edition, n), limit, input, n, store, room, result);
+    if (way == SIGN_EXTENDED) extend_signs(store, result[TANDREKILY_RECORDS]);
+    size_t used = (size_t)result[TANDREKILY_RECORDS] * TANDREKILY_RECORD_SIZE;
+    spoil_bytes(way, result[TANDREKILY_NUMBER] == TANDREKILY_ACCEPTED, store, room, used);
+    spoil_result(way, result);
+}
+
+void __wrap_tandrekily_message_by(uint32_t edition, size_t limit, const uint8_t *input, size_t n, uint8_t *store, size_t room,
+                                  uint64_t *result) {
+    spoil_decoder_by(wrong(MESSAGE_BY), __real_tandrekily_message_by, __real_tandrekily_message, edition, limit, input, n, store,
+                     room, result);
+}
+
+void __wrap_tandrekily_avp_by(uint32_t edition, size_t limit, const uint8_t *input, size_t n, uint8_t *store, size_t room,
+                              uint64_t *result) {
+    spoil_decoder_by(wrong(AVP_BY), __real_tandrekily_avp_by, __real_tandrekily_avp, edition, limit, input, n, store, room, result);
+}
+
+// ---- signed numbers and Unit-Values
+
+int32_t __wrap_tandrekily_integer32(uint32_t bits) {
+    int32_t number = __real_tandrekily_integer32(bits);
+    if (wrong(INTEGER32) == NO_SIGN) return number & INT32_MAX;
+    return number ^ (wrong(INTEGER32) == OFF_BY_ONE);
+}
+
+int64_t __wrap_tandrekily_integer64(uint64_t bits) {
+    int64_t number = __real_tandrekily_integer64(bits);
+    if (wrong(INTEGER64) == NO_SIGN) return number & INT64_MAX;
+    return number ^ (wrong(INTEGER64) == OFF_BY_ONE);
+}
+
+static bool in_range(int32_t exponent) {
+    return -18 <= exponent && exponent <= 18;
+}
+
+// The exponent that is asked about in place of the one given. Where it is not `tested`, one of any size is taken.
+static int32_t exponent_asked(int way, bool tested, int32_t exponent) {
+    if (!tested && !in_range(exponent)) return 0;
+    if (way == TAKES_19 && exponent == 19) return 18;
+    if (way == TAKES_MINUS_19 && exponent == -19) return -18;
+    if (way == REFUSES_18 && exponent == 18) return 19;
+    if (way == REFUSES_MINUS_18 && exponent == -18) return -19;
+    if (way == NO_EXPONENTS && in_range(exponent)) return 0;
+    return way == EXPONENT_LOW_BITS ? (int16_t)exponent : exponent;
+}
+
+// Do the digits alone tell the order, so that the exponents are not tested?
+static bool told_by_digits(int way, int64_t digits, int64_t other_digits) {
+    if (way == ZEROS_TAKEN) return digits == 0 && other_digits == 0;
+    return way == SIGNS_TAKEN && (digits < 0) != (other_digits < 0);
+}
+
+static double in_double(int64_t digits, int32_t exponent) {
+    double value = (double)digits;
+    for (; exponent > 0; exponent--) value *= 10;
+    for (; exponent < 0; exponent++) value /= 10;
+    return value;
+}
+
+// In 64 bits, times ten to so much: what passes them is lost, and so is what a division leaves.
+static int64_t in_64_bits(int64_t digits, int32_t exponent) {
+    for (; exponent > 0; exponent--) digits = (int64_t)((uint64_t)digits * 10);
+    for (; exponent < 0; exponent++) digits /= 10;
+    return digits;
+}
+
+static int32_t order_of(bool less, bool greater) {
+    return less ? TANDREKILY_LESS : greater ? TANDREKILY_GREATER : TANDREKILY_EQUAL;
+}
+
+// The order of two Unit-Values that are not refused, by arithmetic that isn't exact.
+static int32_t inexact(int way, int64_t digits, int32_t exponent, int64_t other_digits, int32_t other_exponent) {
+    if (way == DOUBLES) {
+        double a = in_double(digits, exponent), b = in_double(other_digits, other_exponent);
+        return order_of(a < b, a > b);
+    }
+    int32_t up = way == WRAPPED ? 18 : 0;
+    int64_t a = in_64_bits(digits, exponent + up), b = in_64_bits(other_digits, other_exponent + up);
+    return order_of(a < b, a > b);
+}
+
+uint8_t __wrap_tandrekily_compare(int64_t digits, int32_t exponent, int64_t other_digits, int32_t other_exponent, int32_t *order) {
+    int way = wrong(COMPARE);
+    bool told = told_by_digits(way, digits, other_digits);
+    int32_t first = exponent_asked(way, !told && way != SECOND_ALONE, exponent);
+    int32_t second = exponent_asked(way, !told && way != FIRST_ALONE, other_exponent);
+    uint8_t number = __real_tandrekily_compare(digits, first, other_digits, second, order);
+    if (number != TANDREKILY_ACCEPTED && way == ORDER_IF_REFUSED) *order = TANDREKILY_EQUAL;
+    if (number == TANDREKILY_ACCEPTED) {
+        if (way == OPPOSITE) *order = -*order;
+        if (way == NEVER_EQUAL && *order == TANDREKILY_EQUAL) *order = TANDREKILY_GREATER;
+        if (way >= DOUBLES) *order = inexact(way, digits, exponent, other_digits, other_exponent);
+    }
+    return number ^ (way == OTHER_ANSWER);
 }
