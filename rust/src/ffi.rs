@@ -1,4 +1,5 @@
-//! The unsafe boundary: the eight functions of the proved library, and one safe wrapper for each. No other file may have `unsafe`.
+//! The unsafe boundary: eleven functions of the proved library, and one safe wrapper for each. No other file may have `unsafe`.
+//! The library has two more, `tandrekily_integer32` and `tandrekily_integer64`, for which Rust has casts.
 //!
 //! The declarations are those of `crates/tandrekily/src/lib.rt`. What every call below relies on:
 //!
@@ -33,10 +34,30 @@ extern "C" {
         result: *mut Numbers,
     );
 
+    fn tandrekily_message_by(
+        edition: u32,
+        limit: usize,
+        input: *const u8,
+        input_len: usize,
+        store: *mut u8,
+        store_len: usize,
+        result: *mut Numbers,
+    );
+
     fn tandrekily_header(input: *const u8, input_len: usize, result: *mut Numbers);
 
     fn tandrekily_avp(
         rfc: bool,
+        limit: usize,
+        input: *const u8,
+        input_len: usize,
+        store: *mut u8,
+        store_len: usize,
+        result: *mut Numbers,
+    );
+
+    fn tandrekily_avp_by(
+        edition: u32,
         limit: usize,
         input: *const u8,
         input_len: usize,
@@ -72,6 +93,14 @@ extern "C" {
     fn tandrekily_is_utf8(text: *const u8, text_len: usize) -> bool;
 
     fn tandrekily_unix_seconds(time: u32) -> i64;
+
+    fn tandrekily_compare(
+        digits: i64,
+        exponent: i32,
+        other_digits: i64,
+        other_exponent: i32,
+        order: *mut i32,
+    ) -> u8;
 }
 
 pub fn message(rfc: bool, limit: usize, input: &[u8], store: &mut [u8]) -> Numbers {
@@ -81,6 +110,23 @@ pub fn message(rfc: bool, limit: usize, input: &[u8], store: &mut [u8]) -> Numbe
     unsafe {
         tandrekily_message(
             rfc,
+            limit,
+            input.as_ptr(),
+            input.len(),
+            store.as_mut_ptr(),
+            store.len(),
+            &mut result,
+        );
+    }
+    result
+}
+
+pub fn message_by(edition: u32, limit: usize, input: &[u8], store: &mut [u8]) -> Numbers {
+    let mut result = NOTHING;
+    // SAFETY: as for `message`. Any edition is answered.
+    unsafe {
+        tandrekily_message_by(
+            edition,
             limit,
             input.as_ptr(),
             input.len(),
@@ -105,6 +151,23 @@ pub fn avp(rfc: bool, limit: usize, input: &[u8], store: &mut [u8]) -> Numbers {
     unsafe {
         tandrekily_avp(
             rfc,
+            limit,
+            input.as_ptr(),
+            input.len(),
+            store.as_mut_ptr(),
+            store.len(),
+            &mut result,
+        );
+    }
+    result
+}
+
+pub fn avp_by(edition: u32, limit: usize, input: &[u8], store: &mut [u8]) -> Numbers {
+    let mut result = NOTHING;
+    // SAFETY: as for `message_by`, whose arguments these are.
+    unsafe {
+        tandrekily_avp_by(
+            edition,
             limit,
             input.as_ptr(),
             input.len(),
@@ -163,4 +226,20 @@ pub fn is_utf8(text: &[u8]) -> bool {
 pub fn unix_seconds(time: u32) -> i64 {
     // SAFETY: a number goes in and a number comes out; every `u32` is answered.
     unsafe { tandrekily_unix_seconds(time) }
+}
+
+/// The answer's number, and where that is 0 the order: less is -1, equal 0, greater 1.
+pub fn compare(one: crate::UnitValue, other: crate::UnitValue) -> (u8, i32) {
+    let mut order = 0;
+    // SAFETY: `order` is a number of this frame. Any digits and exponents are answered.
+    let number = unsafe {
+        tandrekily_compare(
+            one.digits,
+            one.exponent,
+            other.digits,
+            other.exponent,
+            &mut order,
+        )
+    };
+    (number, order)
 }

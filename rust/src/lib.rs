@@ -26,6 +26,35 @@
 //! # Ok::<(), tandrekily::Refusal>(())
 //! ```
 //!
+//! # Credit-control
+//!
+//! By an [`Edition`] the codes of RFC 4006 or RFC 8506 are read too, with [`decode_by`] and [`decode_avp_by`]. Two amounts are
+//! compared exactly as [`UnitValue`]s:
+//!
+//! ```
+//! use core::cmp::Ordering;
+//! use tandrekily::{decode_avp_by, Edition, Limits, Record, UnitValue, Value};
+//!
+//! // A Unit-Value with Value-Digits of 1050 and an Exponent of -2.
+//! let avp = b"\0\0\x01\xBD\x40\0\0\x24\
+//!     \0\0\x01\xBF\x40\0\0\x10\0\0\0\0\0\0\x04\x1A\
+//!     \0\0\x01\xAD\x40\0\0\x0C\xFF\xFF\xFF\xFE";
+//! let mut store = [0; 8 * Record::SIZE];
+//! let decoded = decode_avp_by(avp, Edition::Rfc8506, Limits::default(), &mut store)?;
+//!
+//! let mut amount = UnitValue::default();
+//! for avp in decoded.records() {
+//!     match (avp.record.code, avp.value()) {
+//!         (447, Value::Integer64(digits)) => amount.digits = digits,
+//!         (429, Value::Integer32(exponent)) => amount.exponent = exponent,
+//!         (_, other) => assert_eq!(other, Value::Grouped),
+//!     }
+//! }
+//! let ten = UnitValue { digits: 10, exponent: 0 };
+//! assert_eq!(amount.compare(ten)?, Ordering::Greater);
+//! # Ok::<(), tandrekily::Refusal>(())
+//! ```
+//!
 //! # Finding one AVP
 //!
 //! Where one AVP is all that is wanted, [`find`] gives its [`Outline`]. It reads the headers of the AVPs up to that one, enters no
@@ -85,19 +114,23 @@
 #![deny(unsafe_op_in_unsafe_fn)]
 
 mod answer;
+mod edition;
 #[allow(unsafe_code)]
 mod ffi;
 mod header;
 mod reader;
 mod record;
 mod refusal;
+mod unit_value;
 mod value;
 
 use answer::Answer;
+pub use edition::Edition;
 pub use header::{Fields, Header};
 pub use reader::{find, Outline, Reader};
 pub use record::{Avp, Record, Records};
 pub use refusal::Refusal;
+pub use unit_value::UnitValue;
 pub use value::{kinds, Value};
 
 /// Flags of what is wrong in a message that is accepted all the same.
@@ -171,6 +204,16 @@ pub struct Message<'a> {
 }
 
 impl<'a> Message<'a> {
+    fn of(answer: Answer, store: &'a [u8], reading: Reading, input: &'a [u8]) -> Message<'a> {
+        Message {
+            header: answer.header,
+            errors: answer.errors,
+            tried: answer.tried,
+            length: answer.length,
+            records: Records::new(&store[..answer.records * Record::SIZE], reading, input),
+        }
+    }
+
     /// The AVPs, each group before its members.
     pub fn records(&self) -> Records<'a> {
         self.records.clone()
@@ -195,6 +238,15 @@ pub struct OneAvp<'a> {
 }
 
 impl<'a> OneAvp<'a> {
+    fn of(answer: Answer, store: &'a [u8], reading: Reading, input: &'a [u8]) -> OneAvp<'a> {
+        OneAvp {
+            errors: answer.errors,
+            tried: answer.tried,
+            length: answer.length,
+            records: Records::new(&store[..answer.records * Record::SIZE], reading, input),
+        }
+    }
+
     /// The AVP, and if it is a group, its members after it.
     pub fn records(&self) -> Records<'a> {
         self.records.clone()
@@ -218,13 +270,35 @@ pub fn decode<'a>(
 ) -> Result<Message<'a>, Refusal> {
     let store = limits.cut(store);
     let answer = Answer::of(ffi::message(reading.is_rfc(), limits.depth, input, store))?;
-    Ok(Message {
-        header: answer.header,
-        errors: answer.errors,
-        tried: answer.tried,
-        length: answer.length,
-        records: Records::new(&store[..answer.records * Record::SIZE], reading, input),
-    })
+    Ok(Message::of(answer, store, reading, input))
+}
+
+/// As [`decode`], by an [`Edition`], or by the number of one from elsewhere, as a setting: it is [`BadEdition`](Refusal::BadEdition)
+/// where there is none.
+///
+/// ```
+/// use tandrekily::{decode_by, Edition, Limits, Record, Refusal, Value};
+///
+/// // A header, and a CC-Request-Number of 7.
+/// let message = b"\x01\0\0\x20\x80\0\x01\x10\0\0\0\x04\0\0\0\0\0\0\0\0\
+///     \0\0\x01\x9F\x40\0\0\x0C\0\0\0\x07";
+/// let mut store = [0; 4 * Record::SIZE];
+/// let decoded = decode_by(message, Edition::Rfc4006, Limits::default(), &mut store)?;
+/// assert_eq!(decoded.records().next().unwrap().value(), Value::Unsigned32(7));
+///
+/// let refused = decode_by(message, 4007_u32, Limits::default(), &mut store);
+/// assert_eq!(refused.err(), Some(Refusal::BadEdition));
+/// # Ok::<(), tandrekily::Refusal>(())
+/// ```
+pub fn decode_by<'a>(
+    input: &'a [u8],
+    edition: impl Into<u32>,
+    limits: Limits,
+    store: &'a mut [u8],
+) -> Result<Message<'a>, Refusal> {
+    let store = limits.cut(store);
+    let answer = Answer::of(ffi::message_by(edition.into(), limits.depth, input, store))?;
+    Ok(Message::of(answer, store, Reading::Rfc, input))
 }
 
 /// Decodes the one AVP at the front of `input`, at depth 1, into records in `store`. The store is left as [`decode`] leaves it.
@@ -236,12 +310,32 @@ pub fn decode_avp<'a>(
 ) -> Result<OneAvp<'a>, Refusal> {
     let store = limits.cut(store);
     let answer = Answer::of(ffi::avp(reading.is_rfc(), limits.depth, input, store))?;
-    Ok(OneAvp {
-        errors: answer.errors,
-        tried: answer.tried,
-        length: answer.length,
-        records: Records::new(&store[..answer.records * Record::SIZE], reading, input),
-    })
+    Ok(OneAvp::of(answer, store, reading, input))
+}
+
+/// As [`decode_avp`], by an [`Edition`] or the number of one, as in [`decode_by`].
+///
+/// ```
+/// use tandrekily::{decode_avp_by, Edition, Limits, Record, Value};
+///
+/// // User-Equipment-Info-Extension came with RFC 8506.
+/// let avp = b"\0\0\x02\x8D\x40\0\0\x08";
+/// let mut store = [0; Record::SIZE];
+/// for (edition, value) in [(Edition::Rfc4006, Value::Unhandled), (Edition::Rfc8506, Value::Grouped)] {
+///     let decoded = decode_avp_by(avp, edition, Limits::default(), &mut store)?;
+///     assert_eq!(decoded.records().next().unwrap().value(), value);
+/// }
+/// # Ok::<(), tandrekily::Refusal>(())
+/// ```
+pub fn decode_avp_by<'a>(
+    input: &'a [u8],
+    edition: impl Into<u32>,
+    limits: Limits,
+    store: &'a mut [u8],
+) -> Result<OneAvp<'a>, Refusal> {
+    let store = limits.cut(store);
+    let answer = Answer::of(ffi::avp_by(edition.into(), limits.depth, input, store))?;
+    Ok(OneAvp::of(answer, store, Reading::Rfc, input))
 }
 
 /// Reads the header at the front of `input` alone, and its [`error_flags`]. The whole message that it announces must be there.

@@ -165,8 +165,9 @@ pub struct Records<'a> {
 }
 
 impl<'a> Records<'a> {
-    /// The records of any table, such as one that was kept: the reading and the input should be those that it was decoded from.
-    /// Nothing is asked of them all the same. Bytes after the last whole record are left out.
+    /// The records of any table, such as one that was kept: the reading and the input should be those that it was decoded from,
+    /// and [`Reading::Rfc`] for one by an edition. Nothing is asked of them all the same. Bytes after the last whole record are
+    /// left out.
     pub fn new(table: &'a [u8], reading: Reading, input: &'a [u8]) -> Records<'a> {
         let whole = table.len() - table.len() % Record::SIZE;
         Records {

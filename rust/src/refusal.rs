@@ -3,12 +3,12 @@
 use core::error::Error;
 use core::fmt::{Display, Formatter, Result};
 
-/// Why nothing was decoded, found or written. A refusal has changed no byte of the store or the output.
+/// Why nothing was decoded, found, written or compared. A refusal has changed no byte of the store or the output.
 ///
-/// Where more than one holds, the first is given, in this order: to decode a message, [`BadDepth`](Refusal::BadDepth), then
-/// [`Incomplete`](Refusal::Incomplete), [`NotVersion`](Refusal::NotVersion) and [`BadLength`](Refusal::BadLength) as the header's
+/// Where more than one holds, the first is given, in this order: to decode a message, [`BadDepth`](Refusal::BadDepth), then, by an
+/// edition, [`BadEdition`](Refusal::BadEdition), then [`Incomplete`](Refusal::Incomplete), [`NotVersion`](Refusal::NotVersion) and [`BadLength`](Refusal::BadLength) as the header's
 /// bytes are read, then [`NotTiled`](Refusal::NotTiled), [`TooDeep`](Refusal::TooDeep), [`NoRecords`](Refusal::NoRecords); to
-/// find an AVP, those of the header and then [`NotTiled`](Refusal::NotTiled); to write, the last four in the order below.
+/// find an AVP, those of the header and then [`NotTiled`](Refusal::NotTiled); to write, the writer's four in the order below.
 ///
 /// ```
 /// use tandrekily::{header, Refusal};
@@ -47,6 +47,10 @@ pub enum Refusal {
     TooLong,
     /// Writer: the output is too short: how long the message is.
     NoRoom(usize),
+    /// The edition is neither 4006 nor 8506.
+    BadEdition,
+    /// Comparison: an exponent isn't -18 to 18.
+    BadExponent,
 }
 
 impl Refusal {
@@ -64,6 +68,8 @@ impl Refusal {
             9 => Refusal::BadTable(amount),
             10 => Refusal::TooLong,
             11 => Refusal::NoRoom(amount),
+            12 => Refusal::BadEdition,
+            13 => Refusal::BadExponent,
             _ => unreachable!("the library is not the one of this crate: it answered {number}"),
         }
     }
@@ -82,6 +88,8 @@ impl Refusal {
             Refusal::BadTable(_) => 9,
             Refusal::TooLong => 10,
             Refusal::NoRoom(_) => 11,
+            Refusal::BadEdition => 12,
+            Refusal::BadExponent => 13,
         }
     }
 
@@ -111,6 +119,8 @@ impl Display for Refusal {
             Refusal::BadTable(n) => write!(f, "the table breaks a rule at record {n}"),
             Refusal::TooLong => f.write_str("the message's length does not fit 24 bits"),
             Refusal::NoRoom(n) => write!(f, "there is no room for {n} bytes"),
+            Refusal::BadEdition => f.write_str("the edition is neither 4006 nor 8506"),
+            Refusal::BadExponent => f.write_str("an exponent is not -18 to 18"),
         }
     }
 }

@@ -11,9 +11,9 @@ pub mod kinds {
     pub const UNHANDLED: u8 = 0;
     /// Bytes.
     pub const OCTET_STRING: u8 = 1;
-    /// A signed number of 32 bits. No code yields it yet.
+    /// A signed number of 32 bits. Only codes of the [editions](crate::Edition) yield it.
     pub const INTEGER32: u8 = 2;
-    /// A signed number of 64 bits. No code yields it yet.
+    /// A signed number of 64 bits. Only codes of the [editions](crate::Edition) yield it.
     pub const INTEGER64: u8 = 3;
     /// A number of 32 bits.
     pub const UNSIGNED32: u8 = 4;
@@ -48,9 +48,9 @@ pub enum Value<'a> {
     Unhandled,
     /// Bytes.
     OctetString(&'a [u8]),
-    /// A signed number of 32 bits. No code yields it yet.
+    /// A signed number of 32 bits. Only codes of the [editions](crate::Edition) yield it.
     Integer32(i32),
-    /// A signed number of 64 bits. No code yields it yet.
+    /// A signed number of 64 bits. Only codes of the [editions](crate::Edition) yield it.
     Integer64(i64),
     /// A number of 32 bits.
     Unsigned32(u32),
@@ -62,8 +62,8 @@ pub enum Value<'a> {
     Float64(f64),
     /// A group. Its members are the records after it that are deeper.
     Grouped,
-    /// One of a list of numbers. The sawp reading takes the 32 bits as unsigned and the RFC reading as signed; an `i64` has room
-    /// for both.
+    /// One of a list of numbers. The sawp reading takes the 32 bits as unsigned, the RFC reading and the editions as signed; an
+    /// `i64` has room for both.
     Enumerated(i64),
     /// Text.
     Utf8String(&'a str),
@@ -78,7 +78,7 @@ pub enum Value<'a> {
 }
 
 impl<'a> Value<'a> {
-    /// The value of a record that was decoded in this reading of this input.
+    /// The value of a record that was decoded in this reading of this input, which by an edition is [`Reading::Rfc`].
     ///
     /// Any record is answered: where it doesn't fit the input, its value is [`Unhandled`](Value::Unhandled).
     pub fn new(record: &Record, reading: Reading, input: &'a [u8]) -> Value<'a> {

@@ -1,9 +1,10 @@
 //! The refusals (docs/FORMAT.md, 7.1): each number with its name, and each name from a call that is refused for it.
 
-use tandrekily::{decode, kinds, write, Fields, Limits, Reading, Record, Refusal};
+use tandrekily::{decode, decode_by, kinds, write};
+use tandrekily::{Fields, Limits, Reading, Record, Refusal, UnitValue};
 
 /// Number, name and amount, as in the table of "Numbers returned". An amount of 7 stands for any.
-const TABLE: [(u8, &str, usize, Refusal); 11] = [
+const TABLE: [(u8, &str, usize, Refusal); 13] = [
     (1, "Incomplete", 7, Refusal::Incomplete(7)),
     (2, "NotVersion", 0, Refusal::NotVersion),
     (3, "BadLength", 0, Refusal::BadLength),
@@ -15,6 +16,8 @@ const TABLE: [(u8, &str, usize, Refusal); 11] = [
     (9, "BadTable", 7, Refusal::BadTable(7)),
     (10, "TooLong", 0, Refusal::TooLong),
     (11, "NoRoom", 7, Refusal::NoRoom(7)),
+    (12, "BadEdition", 0, Refusal::BadEdition),
+    (13, "BadExponent", 0, Refusal::BadExponent),
 ];
 
 const LENT: u8 = 0xA5;
@@ -76,6 +79,23 @@ fn the_depth_limit() {
     assert_eq!(depth(64), None);
     assert_eq!(depth(65), Some(Refusal::BadDepth));
     assert_eq!(depth(usize::MAX), Some(Refusal::BadDepth));
+}
+
+#[test]
+fn the_edition() {
+    let refused = decode_by(&[], 4007_u32, Limits::default(), &mut []).err();
+    assert_eq!(refused, Some(Refusal::BadEdition));
+}
+
+#[test]
+fn the_exponent() {
+    let of = |exponent| UnitValue {
+        digits: 1,
+        exponent,
+    };
+    assert_eq!(of(-19).compare(of(0)), Err(Refusal::BadExponent));
+    assert!(of(-18).compare(of(18)).is_ok());
+    assert_eq!(of(0).compare(of(19)), Err(Refusal::BadExponent));
 }
 
 /// Writes and, where it is refused, sees that no byte of the output has changed.

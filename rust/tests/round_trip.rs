@@ -2,8 +2,9 @@
 
 mod frames;
 
-use frames::{frames, Frame, LENT};
-use tandrekily::{decode, decode_avp, write, Fields, Header, Limits, Reading, Record};
+use frames::{be_u32, frames, Frame, LENT};
+use tandrekily::{decode, decode_avp, decode_by, write};
+use tandrekily::{Fields, Header, Limits, Message, Reading, Record};
 
 /// P8 (docs/FORMAT.md, 10): a Result-Code with a fifth data byte.
 const FIFTH_BYTE: [u8; 36] = [
@@ -22,15 +23,24 @@ fn written(fields: Fields, table: &[u8], pool: &[u8], length: usize) -> Vec<u8> 
     out
 }
 
+fn check_back(m: Message, input: &[u8]) {
+    let back = written(m.header.into(), m.table(), input, m.length);
+    assert_eq!(back, input[..m.length]);
+}
+
 /// Is the frame's message accepted, and if so, does it come back?
 fn message_comes_back(frame: &Frame) -> bool {
     let mut store = frame.store();
-    let Ok(m) = decode(&frame.input, frame.reading, frame.limits, &mut store) else {
-        return false;
-    };
-    let back = written(m.header.into(), m.table(), &frame.input, m.length);
-    assert_eq!(back, frame.input[..m.length]);
-    true
+    let m = decode(&frame.input, frame.reading, frame.limits, &mut store);
+    m.map(|m| check_back(m, &frame.input)).is_ok()
+}
+
+/// The same by the edition that stands before the message.
+fn message_comes_back_by(frame: &Frame) -> bool {
+    let (edition, input) = frame.input.split_at(4);
+    let mut store = frame.store();
+    let m = decode_by(input, be_u32(edition), frame.limits, &mut store);
+    m.map(|m| check_back(m, input)).is_ok()
 }
 
 /// The same of an AVP alone, which comes back behind a header.
@@ -61,6 +71,16 @@ fn every_accepted_message_of_the_sample_comes_back() {
     let messages = sample.iter().filter(|frame| frame.function == 0);
     let accepted = messages.filter(|frame| message_comes_back(frame)).count();
     assert!(accepted > 2000, "only {accepted} messages are accepted");
+}
+
+#[test]
+fn every_message_of_the_sample_accepted_by_an_edition_comes_back() {
+    let sample = frames();
+    let messages = sample.iter().filter(|frame| frame.function == 6);
+    let accepted = messages
+        .filter(|frame| message_comes_back_by(frame))
+        .count();
+    assert!(accepted > 700, "only {accepted} messages are accepted");
 }
 
 #[test]

@@ -3,17 +3,20 @@
 mod frames;
 
 use frames::{be_u32, frames, replay, Frame};
-use tandrekily::{decode, decode_avp, find, header, write};
-use tandrekily::{Fields, Header, Reader, Reading, Records, Refusal};
+use tandrekily::{decode, decode_avp, decode_avp_by, decode_by, find, header, write};
+use tandrekily::{Fields, Header, Message, OneAvp, Reader, Reading, Records, Refusal, UnitValue};
 
 const MESSAGE: u8 = 0;
 const HEADER_ALONE: u8 = 1;
 const AVP_ALONE: u8 = 2;
 const SEARCH: u8 = 4;
 const STEPS: u8 = 5;
+const MESSAGE_BY: u8 = 6;
+const AVP_BY: u8 = 7;
+const COMPARISON: u8 = 8;
 
 /// How many cases of each function there are at least.
-const CASES: [usize; 6] = [4_400, 100, 1_500, 120, 1_400, 600];
+const CASES: [usize; 9] = [4_400, 100, 1_500, 120, 1_400, 600, 1_400, 600, 1_100];
 
 /// Where the table starts in the input of a case for the writer, after the fields and the table's length.
 const TABLE: usize = 21;
@@ -58,8 +61,8 @@ fn check_rows(records: Records) {
     assert_eq!(made, records.as_bytes());
 }
 
-fn message(frame: &Frame, store: &mut [u8], out: &mut Vec<u8>) {
-    match decode(&frame.input, frame.reading, frame.limits, store) {
+fn put_message(out: &mut Vec<u8>, answer: Result<Message, Refusal>) {
+    match answer {
         Ok(m) => {
             put_accepted(out);
             put_header(out, m.header);
@@ -68,6 +71,18 @@ fn message(frame: &Frame, store: &mut [u8], out: &mut Vec<u8>) {
         }
         Err(refusal) => put_refusal(out, refusal),
     }
+}
+
+fn message(frame: &Frame, store: &mut [u8], out: &mut Vec<u8>) {
+    let answer = decode(&frame.input, frame.reading, frame.limits, store);
+    put_message(out, answer);
+}
+
+/// The edition stands before the message.
+fn message_by(frame: &Frame, store: &mut [u8], out: &mut Vec<u8>) {
+    let (edition, input) = frame.input.split_at(4);
+    let answer = decode_by(input, be_u32(edition), frame.limits, store);
+    put_message(out, answer);
 }
 
 fn header_alone(frame: &Frame, out: &mut Vec<u8>) {
@@ -81,8 +96,8 @@ fn header_alone(frame: &Frame, out: &mut Vec<u8>) {
     }
 }
 
-fn avp_alone(frame: &Frame, store: &mut [u8], out: &mut Vec<u8>) {
-    match decode_avp(&frame.input, frame.reading, frame.limits, store) {
+fn put_avp(out: &mut Vec<u8>, answer: Result<OneAvp, Refusal>) {
+    match answer {
         Ok(one) => {
             put_accepted(out);
             put_counts(out, one.errors, one.records().len(), one.tried, one.length);
@@ -90,6 +105,18 @@ fn avp_alone(frame: &Frame, store: &mut [u8], out: &mut Vec<u8>) {
         }
         Err(refusal) => put_refusal(out, refusal),
     }
+}
+
+fn avp_alone(frame: &Frame, store: &mut [u8], out: &mut Vec<u8>) {
+    let answer = decode_avp(&frame.input, frame.reading, frame.limits, store);
+    put_avp(out, answer);
+}
+
+/// The edition stands before the AVP.
+fn avp_by(frame: &Frame, store: &mut [u8], out: &mut Vec<u8>) {
+    let (edition, input) = frame.input.split_at(4);
+    let answer = decode_avp_by(input, be_u32(edition), frame.limits, store);
+    put_avp(out, answer);
 }
 
 fn fields_of(bytes: &[u8]) -> Fields {
@@ -167,6 +194,26 @@ fn steps(frame: &Frame, out: &mut Vec<u8>) {
     }
 }
 
+fn unit_value(bytes: &[u8]) -> UnitValue {
+    let (digits, exponent) = bytes.split_at(8);
+    UnitValue {
+        digits: i64::from_be_bytes(digits.try_into().expect("8 bytes")),
+        exponent: be_u32(exponent) as i32,
+    }
+}
+
+/// Less is 0, equal 1, greater 2.
+fn comparison(frame: &Frame, out: &mut Vec<u8>) {
+    let (one, other) = frame.input.split_at(12);
+    match unit_value(one).compare(unit_value(other)) {
+        Ok(order) => {
+            put_accepted(out);
+            out.push((order as i8 + 1) as u8);
+        }
+        Err(refusal) => put_refusal(out, refusal),
+    }
+}
+
 fn answer(frame: &Frame) -> Vec<u8> {
     let mut out = Vec::new();
     let mut store = frame.store();
@@ -176,6 +223,9 @@ fn answer(frame: &Frame) -> Vec<u8> {
         AVP_ALONE => avp_alone(frame, &mut store, &mut out),
         SEARCH => search(frame, &mut out),
         STEPS => steps(frame, &mut out),
+        MESSAGE_BY => message_by(frame, &mut store, &mut out),
+        AVP_BY => avp_by(frame, &mut store, &mut out),
+        COMPARISON => comparison(frame, &mut out),
         _ => table(frame, &mut store, &mut out),
     }
     out.extend(store);

@@ -2,9 +2,9 @@
 
 mod frames;
 
-use frames::{frames, LENT};
+use frames::{be_u32, frames, LENT};
 use std::net::IpAddr;
-use tandrekily::{decode, decode_avp, kinds, Limits, Reading, Record, Value};
+use tandrekily::{decode, decode_avp, decode_by, kinds, Limits, Message, Reading, Record, Value};
 
 /// An AVP of this code and these data.
 fn avp(code: u32, data: &[u8]) -> Vec<u8> {
@@ -103,7 +103,7 @@ fn addresses() {
     check_both(257, &[], Value::Unhandled);
 }
 
-/// Kinds that no code yields yet are read from the record's bits.
+/// Kinds that no code of a reading yields are read from the record's bits.
 #[test]
 fn kinds_of_tables_alone() {
     let of = |kind, bits| {
@@ -124,30 +124,47 @@ fn kinds_of_tables_alone() {
     assert_eq!(of(15, 1), Value::Unhandled);
 }
 
+/// Counts the records by their kinds. The value of each must be of its kind.
+fn count_kinds(m: &Message, seen: &mut [usize; 15]) {
+    for avp in m.records() {
+        let unhandled = avp.value() == Value::Unhandled;
+        assert_eq!(
+            unhandled,
+            avp.record.kind == kinds::UNHANDLED,
+            "{:?}",
+            avp.record
+        );
+        assert!(avp.data().is_some(), "{:?}", avp.record);
+        seen[usize::from(avp.record.kind)] += 1;
+    }
+}
+
+/// The kinds that no record has.
+fn absent(seen: &[usize; 15]) -> Vec<usize> {
+    (0..15).filter(|&kind| seen[kind] == 0).collect()
+}
+
 #[test]
 fn every_record_of_the_sample_has_the_value_of_its_kind() {
     let mut seen = [0; 15];
     for frame in frames().iter().filter(|frame| frame.function == 0) {
         let mut store = frame.store();
-        let Ok(m) = decode(&frame.input, frame.reading, frame.limits, &mut store) else {
-            continue;
-        };
-        for avp in m.records() {
-            let unhandled = avp.value() == Value::Unhandled;
-            assert_eq!(
-                unhandled,
-                avp.record.kind == kinds::UNHANDLED,
-                "{:?}",
-                avp.record
-            );
-            assert!(avp.data().is_some(), "{:?}", avp.record);
-            seen[usize::from(avp.record.kind)] += 1;
+        if let Ok(m) = decode(&frame.input, frame.reading, frame.limits, &mut store) {
+            count_kinds(&m, &mut seen);
         }
     }
-    let absent: Vec<usize> = (0..15).filter(|&kind| seen[kind] == 0).collect();
-    assert_eq!(
-        absent,
-        [2, 3, 6, 7],
-        "kinds that no record of the sample has"
-    );
+    assert_eq!(absent(&seen), [2, 3, 6, 7]);
+}
+
+#[test]
+fn every_record_by_an_edition_has_the_value_of_its_kind() {
+    let mut seen = [0; 15];
+    for frame in frames().iter().filter(|frame| frame.function == 6) {
+        let (edition, input) = frame.input.split_at(4);
+        let mut store = frame.store();
+        if let Ok(m) = decode_by(input, be_u32(edition), frame.limits, &mut store) {
+            count_kinds(&m, &mut seen);
+        }
+    }
+    assert_eq!(absent(&seen), [6, 7]);
 }
