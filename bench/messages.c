@@ -2,8 +2,10 @@
 #include "messages.h"
 #include <string.h>
 
-enum { HEADER = 20, HEAD = 8, NUMBER = 12, MANDATORY = 0x40 };
+enum { HEADER = 20, HEAD = 8, NUMBER = 12, LONG_NUMBER = 16, MANDATORY = 0x40 };
 enum { FAILED_AVP = 279, PROXY_INFO = 284, VENDOR_SPECIFIC_APPLICATION_ID = 260 };
+enum { CC_MONEY = 413, REQUESTED_SERVICE_UNIT = 437, SUBSCRIPTION_ID = 443, UNIT_VALUE = 445, USED_SERVICE_UNIT = 446 };
+enum { MULTIPLE_SERVICES_CREDIT_CONTROL = 456 };
 
 static uint8_t *put(uint8_t *at, uint32_t value, int bytes) {
     while (bytes-- > 0) *at++ = (uint8_t)(value >> 8 * bytes);
@@ -27,6 +29,11 @@ static uint8_t *text(uint8_t *at, uint32_t code, const char *data, size_t length
 
 static uint8_t *number(uint8_t *at, uint32_t code, uint32_t value) {
     return put(head(at, code, MANDATORY, NUMBER), value, 4);
+}
+
+static uint8_t *long_number(uint8_t *at, uint32_t code, uint64_t value) {
+    at = put(head(at, code, MANDATORY, LONG_NUMBER), (uint32_t)(value >> 32), 4);
+    return put(at, (uint32_t)value, 4);
 }
 
 // The header's length is set when the end is known.
@@ -105,6 +112,63 @@ size_t message_session(uint8_t *out, size_t before) {
         at = other(at, i);
     }
     return finish(out, before == 19 ? session(at) : at);
+}
+
+// ---- the credit-control message
+
+static uint8_t *subscription(uint8_t *group) {
+    uint8_t *at = number(group + HEAD, 450, 0);
+    at = TEXT(at, 444, "491711234567");
+    head(group, SUBSCRIPTION_ID, MANDATORY, (size_t)(at - group));
+    return at;
+}
+
+static uint8_t *used(uint8_t *group) {
+    uint8_t *at = number(group + HEAD, 420, 300);
+    at = long_number(at, 421, 5368709120u);
+    at = long_number(at, 412, 1073741824u);
+    at = long_number(at, 414, 4294967296u);
+    head(group, USED_SERVICE_UNIT, MANDATORY, (size_t)(at - group));
+    return at;
+}
+
+static uint8_t *money(uint8_t *group) {
+    uint8_t *value = group + HEAD;
+    uint8_t *at = long_number(value + HEAD, 447, 1050);
+    at = number(at, 429, (uint32_t)-2);
+    head(value, UNIT_VALUE, MANDATORY, (size_t)(at - value));
+    at = number(at, 425, 978);
+    head(group, CC_MONEY, MANDATORY, (size_t)(at - group));
+    return at;
+}
+
+static uint8_t *service(uint8_t *group) {
+    uint8_t *requested = group + HEAD;
+    uint8_t *at = money(requested + HEAD);
+    head(requested, REQUESTED_SERVICE_UNIT, MANDATORY, (size_t)(at - requested));
+    at = used(at);
+    at = number(at, 439, 7);
+    at = number(at, 432, 100);
+    head(group, MULTIPLE_SERVICES_CREDIT_CONTROL, MANDATORY, (size_t)(at - group));
+    return at;
+}
+
+size_t message_credit(uint8_t *out) {
+    uint8_t *at = start(out, 0xC0, 272, 4, 0x1B2C3D4E, 0x5A6B7C8D);
+    at = session(at);
+    at = TEXT(at, 264, "gateway-01.example.net");
+    at = TEXT(at, 296, "example.net");
+    at = TEXT(at, 283, "example.net");
+    at = number(at, 258, 4);
+    at = TEXT(at, 461, "32251@3gpp.org");
+    at = number(at, 416, 2);
+    at = number(at, 415, 5);
+    at = number(at, 55, 3900000000u);
+    at = subscription(at);
+    at = number(at, 455, 1);
+    at = service(at);
+    at = TEXT(at, 282, "relay4.core.example.net");
+    return finish(out, at);
 }
 
 // ---- the others

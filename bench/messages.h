@@ -14,6 +14,10 @@ size_t message_typical(uint8_t *out);
 // An accounting request of 20 AVPs and no group, its Session-Id behind so many of the others, 19 at most.
 size_t message_session(uint8_t *out, size_t before);
 
+// A credit-control request of 28 AVPs (RFC 8506, section 3.1), six of them groups, up to five deep: what was used of a service, and
+// some money for more.
+size_t message_credit(uint8_t *out);
+
 // Nothing but AVPs without data, as many as `most` bytes hold.
 size_t message_small(uint8_t *out, size_t most);
 

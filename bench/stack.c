@@ -1,5 +1,5 @@
-// `stack BYTES`: decodes a message of 16 MiB with 1.4 million AVPs and one nested to the limit, and writes both back, on a stack of
-// so many bytes. Pages that can't be touched lie below it, so a stack too small is a crash.
+// `stack BYTES`: decodes a message of 16 MiB with 1.4 million AVPs and one nested to the limit, in the sawp reading and by an edition,
+// and writes them back, on a stack of so many bytes. Pages that can't be touched lie below it, so a stack too small is a crash.
 #define _DEFAULT_SOURCE
 #include "messages.h"
 #include "tandrekily.h"
@@ -14,6 +14,7 @@ enum { DEPTH = 64, ROOM = 1400000 * TANDREKILY_RECORD_SIZE, GUARD = 1 << 20, UNT
 
 static uint8_t input[MESSAGE_MOST], store[ROOM], out[MESSAGE_MOST];
 static size_t length;
+static uint32_t edition; // 0 for the sawp reading
 static uint64_t read[TANDREKILY_RESULT], written[TANDREKILY_RESULT];
 
 static void stop(const char *why) {
@@ -24,7 +25,8 @@ static void stop(const char *why) {
 // ---- on the small stack: nothing but the library is called
 
 static void round_trip(void) {
-    tandrekily_message(false, DEPTH, input, length, store, sizeof store, read);
+    if (edition == 0) tandrekily_message(false, DEPTH, input, length, store, sizeof store, read);
+    else tandrekily_message_by(edition, DEPTH, input, length, store, sizeof store, read);
     tandrekily_write((uint8_t)read[TANDREKILY_MESSAGE_FLAGS], (uint32_t)read[TANDREKILY_COMMAND_CODE],
                      (uint32_t)read[TANDREKILY_APPLICATION_ID], (uint32_t)read[TANDREKILY_HOP_BY_HOP],
                      (uint32_t)read[TANDREKILY_END_TO_END], store, read[TANDREKILY_RECORDS] * TANDREKILY_RECORD_SIZE, input,
@@ -66,13 +68,20 @@ static void check(const char *name, uint64_t records, uint64_t tried, size_t byt
     fflush(stdout);
 }
 
-int main(int count, char **words) {
-    if (count != 2) stop("usage: stack BYTES");
-    size_t bytes = strtoul(words[1], NULL, 10);
-    uint8_t *stack = stack_of(bytes);
+static void check_both(size_t bytes, uint8_t *stack) {
     length = message_nested(input, DEPTH);
     check("nested 64 deep", DEPTH, DEPTH, bytes, stack);
     length = message_extremal(input, MESSAGE_MOST);
     check("16 MiB", (length - 20) / 12, (length - 20) / 6, bytes, stack);
+}
+
+int main(int count, char **words) {
+    if (count != 2) stop("usage: stack BYTES");
+    size_t bytes = strtoul(words[1], NULL, 10);
+    uint8_t *stack = stack_of(bytes);
+    check_both(bytes, stack);
+    edition = TANDREKILY_RFC_8506;
+    puts("by RFC 8506:");
+    check_both(bytes, stack);
     return 0;
 }
