@@ -1,11 +1,13 @@
 -- The answer of the decoder of messages, as one of the definition.
 use Prim.Native.Nat.{ℕ}
 use mathlib.Core.Path.{_≡_}
-use mathlib.Core.Bool.{true}
+use mathlib.Core.Bool.{true, cond}
 use mathlib.Core.List.{List}
 use Rattle.rfc6733.specs.Avp.{avpSize, complete}
-use Rattle.refusal.specs.Answer.{Answer, accepted, refused}
+use Rattle.refusal.specs.Answer.{Refusal, Answer, accepted, refused}
+use Rattle.refusal.specs.declared.Refusal.the-variants.{BadDepth, BadEdition}
 use Rattle.rfc6733.specs.Decoder as definition
+use Rattle.rfc6733.specs.Decoder.{allowed}
 use Rattle.record.specs.Store.{stored}
 use Rattle.rfc6733.specs.Dictionary.{Dictionary}
 use Rattle.avps.specs.declared.Filled.{Filled}
@@ -26,6 +28,10 @@ pub record Headed (h : Header) (e : ℕ) (s : List ℕ) : Type 0 where
 pub record Complete (size : ℕ) (s : List ℕ) : Type 0 where
   pub whole : complete s ≡ true
   pub size-is : size ≡ avpSize s
+
+-- how a number that is no edition is refused: for the limit, or else as BadEdition
+abbrev pub noEdition : ℕ → Refusal
+noEdition limit = cond (allowed limit) BadEdition BadDepth
 
 unfoldable pub messageAs : Message → definition.Message
 messageAs m =

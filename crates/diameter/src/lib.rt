@@ -15,12 +15,12 @@ ghost use mathlib.Core.Bool.{true};
 ghost use lib.ListN.{length};
 ghost use Rattle.rfc6733.specs.CreditControl.{editionOf};
 ghost use Rattle.rfc6733.specs.Decoder.{allowed, decoded, avpAlone};
-ghost use Rattle.rfc6733.specs.Editions.{noEdition, decodedBy, avpAloneBy};
+ghost use Rattle.rfc6733.specs.Editions.{decodedBy, avpAloneBy};
 ghost use Rattle.record.specs.Store.{room};
 ghost use Rattle.attribute.specs.Attributes.{dictionary};
 ghost use Rattle.attribute.specs.ByTable.{dictionaryBy};
 ghost use Rattle.avps.specs.Answers as avps;
-ghost use Rattle.diameter.specs.Answers.{Headed, Complete, answerOf, storeAfter, storeAfterAvp};
+ghost use Rattle.diameter.specs.Answers.{Headed, Complete, noEdition, answerOf, storeAfter, storeAfterAvp};
 
 /// An accepted message: its header, error flags, number of records, headers tried and consumed length.
 pub struct Message {

@@ -12,7 +12,6 @@ use Rattle.refusal.specs.Refusals.{numberOf}
 use Rattle.refusal.specs.declared.Refusal.the-variants.{BadEdition}
 use Rattle.rfc6733.specs.CreditControl.{isEdition}
 use Rattle.rfc6733.specs.Decoder.{allowed}
-use Rattle.rfc6733.specs.Editions.{noEdition}
 use Rattle.rfc6733.proofs.Editions.{message-by-none, alone-by-none, message-bad-edition, alone-bad-edition}
 use Rattle.rfc6733.proofs.Numbers.{message-numbers, alone-numbers, message-by-numbers, alone-by-numbers}
 use Rattle.attribute.specs.declared.Reading.{Reading}
@@ -23,6 +22,7 @@ use Rattle.avps.proofs.AnswerOf as avps-answer-of
 use Rattle.diameter.specs.declared.Decoded.{Decoded}
 use Rattle.diameter.specs.declared.Decoded.the-variants as diameter
 use Rattle.diameter.specs.Answers as diameter-answers
+use Rattle.diameter.specs.Answers.{noEdition}
 use Rattle.diameter.proofs.AnswerOf as diameter-answer-of
 use Rattle.promises.proofs.OneOutcome.Calls.{Slice, Parse, ParseAvp, ParseBy, ParseAvpBy}
 

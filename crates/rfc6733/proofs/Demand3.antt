@@ -15,7 +15,7 @@ use Rattle.rfc6733.specs.CreditControl.{rfc4006, rfc8506, editionOf}
 use Rattle.rfc6733.specs.Decoder.{Message, runCounts, messageBody, messageOf, decoded, allowed, runRecords, messageRefusals}
 use Rattle.rfc6733.specs.Writer.{most24}
 use Rattle.rfc6733.proofs.Accepted.{when-accepted}
-use Rattle.rfc6733.proofs.Editions.{each-edition}
+use Rattle.rfc6733.proofs.CreditControl.{each-edition}
 use Rattle.rfc6733.proofs.Tried.{tried-bound}
 use mathlib.Core.Bool.{true}
 use borrow.Author.Tests.{eq-eqb}

@@ -4,45 +4,16 @@ use Prim.Native.Nat.{ℕ}
 use mathlib.Core.Path.{_≡_, refl, sym}
 use mathlib.Core.Bool.{Bool, true, false, not, cond, _&&_}
 use mathlib.Core.Logic.{inl, inr}
-use mathlib.Core.List.{List, _++_, map}
-use lib.Dec.{eqb}
+use mathlib.Core.List.{List, _++_}
 use Rattle.refusal.specs.Answer.{Refusal, accepted, refused, Test, answer}
 use Rattle.refusal.specs.declared.Refusal.the-variants.{BadDepth, BadEdition}
 use Rattle.refusal.proofs.Answers.{and-true, kept-not, not-accepted, among, answer-later, not-among}
 use Rattle.refusal.proofs.Tests.{decide}
 use Rattle.rfc6733.specs.Header.{headerRefusals}
 use Rattle.rfc6733.specs.Avp.{avpRefusals}
-use Rattle.rfc6733.specs.Dictionary.{Dictionary, Row, kindIn, baseAvps, rfc}
-use Rattle.rfc6733.specs.CreditControl.{avps4006, avps8506, rfc4006, rfc8506, isEdition, editionOf}
+use Rattle.rfc6733.specs.CreditControl.{isEdition, editionOf}
 use Rattle.rfc6733.specs.Decoder.{Message, allowed, limitRefusals, bytesRefusals, messageRefusals, messageOf, decoded, aloneBytesRefusals, aloneRefusals, aloneOf, avpAlone}
-use Rattle.rfc6733.specs.Editions.{editionRefusals, noEdition, decodedBy, avpAloneBy}
-
--- ---- the tables beside one another
-
-abbrev kindsOf : List Row → List ℕ → List ℕ
-kindsOf rs = map (kindIn rs)
-
-abbrev codesOf : List Row → List ℕ
-codesOf = map (λ r. r .code)
-
--- no edition moves a code of RFC 6733
-pub base-kept : (kindsOf (avps4006 ++ baseAvps) (codesOf baseAvps) ≡ kindsOf baseAvps (codesOf baseAvps))
-    × (kindsOf (avps8506 ++ baseAvps) (codesOf baseAvps) ≡ kindsOf baseAvps (codesOf baseAvps))
-base-kept = (refl, refl)
-
--- and the newer one moves none of the older's
-pub older-kept : kindsOf avps8506 (codesOf avps4006) ≡ kindsOf avps4006 (codesOf avps4006)
-older-kept = refl
-
--- what holds of both editions' dictionaries and of the RFC reading's holds of that of any number
-pub each-edition : (P : Dictionary → Type 0) → P rfc4006 → P rfc8506 → P rfc → (n : ℕ) → P (editionOf n)
-unfolding editionOf
-each-edition P older newer neither n = by (eqb n 4006) (eqb n 8506)
-  where
-    by : (a b : Bool) → P (cond a rfc4006 (cond b rfc8506 rfc))
-    by true b = older
-    by false true = newer
-    by false false = neither
+use Rattle.rfc6733.specs.Editions.{editionRefusals, decodedBy, avpAloneBy}
 
 -- ---- the test of the edition, whatever is refused after it
 
@@ -50,7 +21,7 @@ module _ {A : Type 0} (n limit : ℕ) (rs : List Test) (x : A) where
   known : isEdition n ≡ true → answer (limitRefusals limit ++ (editionRefusals n ++ rs)) x ≡ answer (limitRefusals limit ++ rs) x
   known e = rw e
 
-  unknown : isEdition n ≡ false → refused (noEdition limit) ≡ answer (limitRefusals limit ++ (editionRefusals n ++ rs)) x
+  unknown : isEdition n ≡ false → refused (cond (allowed limit) BadEdition BadDepth) ≡ answer (limitRefusals limit ++ (editionRefusals n ++ rs)) x
   unknown e = elim (decide (allowed limit)) [ inl ok ↦ rw (ok, e) | inr bad ↦ rw bad ]
 
   only-known : (y : A) → answer (limitRefusals limit ++ (editionRefusals n ++ rs)) x ≡ accepted y → isEdition n ≡ true
@@ -81,7 +52,7 @@ module _ (n limit room : ℕ) (s : List ℕ) where
   unfolding decodedBy decoded messageRefusals
   message-by e = sym (known n limit message-rest (messageOf (editionOf n) s) e)
 
-  pub message-by-none : isEdition n ≡ false → refused (noEdition limit) ≡ decodedBy n limit room s
+  pub message-by-none : isEdition n ≡ false → refused (cond (allowed limit) BadEdition BadDepth) ≡ decodedBy n limit room s
   unfolding decodedBy
   message-by-none = unknown n limit message-rest (messageOf (editionOf n) s)
 
@@ -113,7 +84,7 @@ module _ (n limit room : ℕ) (s : List ℕ) where
   unfolding avpAloneBy avpAlone aloneRefusals
   alone-by e = sym (known n limit alone-rest (aloneOf (editionOf n) s) e)
 
-  pub alone-by-none : isEdition n ≡ false → refused (noEdition limit) ≡ avpAloneBy n limit room s
+  pub alone-by-none : isEdition n ≡ false → refused (cond (allowed limit) BadEdition BadDepth) ≡ avpAloneBy n limit room s
   unfolding avpAloneBy
   alone-by-none = unknown n limit alone-rest (aloneOf (editionOf n) s)
 

@@ -4,6 +4,7 @@ pub mod Items
 pub mod Tiling
 pub mod RunRecords
 pub mod Outlines
+pub mod CreditControl
 pub mod RunErrors
 pub mod Alone
 pub mod Tried

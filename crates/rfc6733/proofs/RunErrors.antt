@@ -17,7 +17,7 @@ use Rattle.record.specs.Kinds.{unhandled}
 use Rattle.rfc6733.specs.Dictionary.{Dictionary, familyAddress, bareAddress, rfc, sawp}
 use Rattle.rfc6733.specs.CreditControl.{rfc4006, rfc8506, editionOf}
 use Rattle.rfc6733.specs.Records.{avpKind, valueOf, ownErrors, errors}
-use Rattle.rfc6733.proofs.Editions.{each-edition}
+use Rattle.rfc6733.proofs.CreditControl.{each-edition}
 use Rattle.refusal.proofs.Tests.{decide}
 use Rattle.flags.proofs.Joins.{join-small, flag-small}
 

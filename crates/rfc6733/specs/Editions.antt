@@ -1,19 +1,15 @@
 -- Decoding by an edition of the credit-control dictionary, a number (docs/FORMAT.md, 7.9): a number that is no edition is refused after
 -- the limit, and before anything is read.
 use Prim.Native.Nat.{ℕ}
-use mathlib.Core.Bool.{cond, not}
+use mathlib.Core.Bool.{not}
 use mathlib.Core.List.{List, [], _∷_, _++_}
-use Rattle.refusal.specs.Answer.{Refusal, Answer, Test, refuse, answer}
-use Rattle.refusal.specs.declared.Refusal.the-variants.{BadDepth, BadEdition}
+use Rattle.refusal.specs.Answer.{Answer, Test, refuse, answer}
+use Rattle.refusal.specs.declared.Refusal.the-variants.{BadEdition}
 use Rattle.rfc6733.specs.CreditControl.{isEdition, editionOf}
-use Rattle.rfc6733.specs.Decoder.{Counts, Message, allowed, limitRefusals, bytesRefusals, messageOf, aloneBytesRefusals, aloneOf}
+use Rattle.rfc6733.specs.Decoder.{Counts, Message, limitRefusals, bytesRefusals, messageOf, aloneBytesRefusals, aloneOf}
 
 abbrev pub editionRefusals : ℕ → List Test
 editionRefusals n = refuse (not (isEdition n)) BadEdition ∷ []
-
--- so a number that is none is refused for the limit, or else as BadEdition
-abbrev pub noEdition : ℕ → Refusal
-noEdition limit = cond (allowed limit) BadEdition BadDepth
 
 -- a message, by the edition, the depth limit, how many records there is room for, and the input
 unfoldable pub decodedBy : ℕ → ℕ → ℕ → List ℕ → Answer Message

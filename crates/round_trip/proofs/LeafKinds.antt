@@ -14,7 +14,7 @@ use Rattle.rfc6733.specs.Value.{Value}
 use Rattle.record.specs.Kinds.{grouped, time}
 use Rattle.rfc6733.specs.Dictionary.{Dictionary, Row, kindIn, baseAvps, sawpAvps, byRows, rfc, sawp}
 use Rattle.rfc6733.specs.CreditControl.{avps4006, avps8506, rfc4006, rfc8506, editionOf}
-use Rattle.rfc6733.proofs.Editions.{each-edition}
+use Rattle.rfc6733.proofs.CreditControl.{each-edition}
 use Rattle.rfc6733.specs.Records.{avpKind, valueOf}
 use Rattle.refusal.proofs.Answers.{and-true}
 use Rattle.refusal.proofs.Tests.{decide}
