@@ -1,2 +1,5 @@
-pub mod Characters
+pub mod Matches
 pub mod Rows
+pub mod Grammar
+pub mod Runs
+pub mod Characters

@@ -1,15 +1,11 @@
 -- ASCII at the front of a text, which the check passes many bytes at a time.
-use Prim.Native.Nat.{ℕ, zero, suc}
-use mathlib.Core.Bool.{Bool, true, _&&_}
-use mathlib.Core.List.{List}
-use lib.ListN.{length, getD}
-use lib.Dec.{leb}
+use Prim.Native.Nat.{ℕ, suc}
+use mathlib.Core.Bool.{cond}
+use mathlib.Core.List.{List, [], _∷_}
+use Rattle.rfc3629.specs.Syntax.{UTF8-1}
+use Rattle.rfc3629.specs.Utf8.{matchesAny}
 
--- are the first n bytes UTF8-1, %x00-7F?
-abbrev pub allAscii : ℕ → List ℕ → Bool
-allAscii zero s = true
-allAscii (suc n) s = allAscii n s && leb (getD s n 0) 0x7F
-
--- are there n bytes, and are the first n so?
-unfoldable pub asciiFront : ℕ → List ℕ → Bool
-asciiFront n s = leb n (length s) && allAscii n s
+-- how many bytes at the front are UTF8-1
+abbrev pub asciiRun : List ℕ → ℕ
+asciiRun [] = 0
+asciiRun (b ∷ s) = cond (matchesAny UTF8-1 (b ∷ [])) (suc (asciiRun s)) 0

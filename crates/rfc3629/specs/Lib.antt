@@ -1,2 +1,4 @@
-pub mod Ascii
+pub mod Abnf
+pub mod Syntax
 pub mod Utf8
+pub mod Ascii

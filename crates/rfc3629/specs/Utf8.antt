@@ -1,49 +1,15 @@
--- Well-formed UTF-8: the syntax of RFC 3629, section 4, in the order in which it stands there.
+-- Well-formed UTF-8, read from the front. Syntax is what to believe; that this says the same is proved (proofs/Grammar: `well-formed-is`).
 use Prim.Native.Nat.{ℕ}
 use mathlib.Core.Bool.{Bool, true, false, cond, not, _&&_, _||_}
 use mathlib.Core.List.{List, [], _∷_}
+use lib.ListN.{length}
 use lib.Dec.{leb, eqb}
 use Rattle.octets.specs.Run.{Format, tree, tiles}
-
--- a range of bytes, %xLOW-HIGH; a single byte %xB is the range %xB-B
-pub record Range : Type 0 where
-  pub low : ℕ
-  pub high : ℕ
-
-abbrev pub range : ℕ → ℕ → Range
-range l h = record { low = l; high = h }
+use Rattle.rfc3629.specs.Abnf.{Range}
+use Rattle.rfc3629.specs.Syntax.{UTF8-char}
 
 abbrev pub within : Range → ℕ → Bool
 within r b = leb (r .low) b && leb b (r .high)
-
--- UTF8-tail = %x80-BF
-abbrev pub tail : Range
-tail = range 0x80 0xBF
-
--- UTF8-1 = %x00-7F
-abbrev pub utf8-1 : List (List Range)
-utf8-1 = (range 0x00 0x7F ∷ []) ∷ []
-
--- UTF8-2 = %xC2-DF UTF8-tail
-abbrev pub utf8-2 : List (List Range)
-utf8-2 = (range 0xC2 0xDF ∷ tail ∷ []) ∷ []
-
--- UTF8-3 = %xE0 %xA0-BF UTF8-tail / %xE1-EC 2( UTF8-tail ) / %xED %x80-9F UTF8-tail / %xEE-EF 2( UTF8-tail )
-abbrev pub utf8-3 : List (List Range)
-utf8-3 =
-    (range 0xE0 0xE0 ∷ range 0xA0 0xBF ∷ tail ∷ [])
-    ∷ (range 0xE1 0xEC ∷ tail ∷ tail ∷ [])
-    ∷ (range 0xED 0xED ∷ range 0x80 0x9F ∷ tail ∷ [])
-    ∷ (range 0xEE 0xEF ∷ tail ∷ tail ∷ [])
-    ∷ []
-
--- UTF8-4 = %xF0 %x90-BF 2( UTF8-tail ) / %xF1-F3 3( UTF8-tail ) / %xF4 %x80-8F 2( UTF8-tail )
-abbrev pub utf8-4 : List (List Range)
-utf8-4 =
-    (range 0xF0 0xF0 ∷ range 0x90 0xBF ∷ tail ∷ tail ∷ [])
-    ∷ (range 0xF1 0xF3 ∷ tail ∷ tail ∷ tail ∷ [])
-    ∷ (range 0xF4 0xF4 ∷ range 0x80 0x8F ∷ tail ∷ tail ∷ [])
-    ∷ []
 
 -- do the bytes at the front of s lie in these ranges, one after the other?
 abbrev pub matches : List Range → List ℕ → Bool
@@ -56,16 +22,16 @@ abbrev pub matchesAny : List (List Range) → List ℕ → Bool
 matchesAny [] s = false
 matchesAny (rs ∷ rss) s = matches rs s || matchesAny rss s
 
--- UTF8-char = UTF8-1 / UTF8-2 / UTF8-3 / UTF8-4: how many bytes the character at the front takes, and 0 where there is none
-unfoldable pub charSize : List ℕ → ℕ
-charSize s =
-    cond (matchesAny utf8-1 s) 1
-    (cond (matchesAny utf8-2 s) 2
-    (cond (matchesAny utf8-3 s) 3
-    (cond (matchesAny utf8-4 s) 4
-    0)))
+-- how many bytes the first alternative takes that is at the front of s, and 0 where none is
+abbrev pub sizeAt : List (List Range) → List ℕ → ℕ
+sizeAt [] s = 0
+sizeAt (rs ∷ rss) s = cond (matches rs s) (length rs) (sizeAt rss s)
 
--- UTF8-octets = *( UTF8-char ): characters cover the text to its last byte
+-- UTF8-char: the size of the one at the front
+unfoldable pub charSize : List ℕ → ℕ
+charSize s = sizeAt UTF8-char s
+
+-- UTF8-octets: characters cover the text to its last byte
 abbrev pub characters : Format
 characters =
     record {

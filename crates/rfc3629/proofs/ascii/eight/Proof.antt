@@ -1,16 +1,20 @@
--- `eight_utf8_1` meets its contract: it asks for eight bytes and then of each of them whether it is UTF8-1.
+-- `eight` meets its contract: it asks for eight bytes, and then of each of them whether it is UTF8-1.
+use mathlib.Core.Path.{sym}
+use native.Mathlib.Omega.{arith}
+use denote.Ref.{now}
 use borrow.Author.Needs.{needs}
-use borrow.Author.Tests.{le-leb, lt-leb}
-use Rattle.rfc3629.specs.Ascii.{asciiFront}
-use Rattle.rfc3629.proofs.eight_utf8_1.Statement.{statement}
-use Rattle.rfc3629.proofs.eight_utf8_1.Tie as tie
+use borrow.Author.Tests.{lt-leb}
+use Rattle.rfc3629.specs.Ascii.{asciiRun}
+use Rattle.rfc3629.proofs.Runs.{run-there, at-least}
+use Rattle.rfc3629.proofs.ascii.eight.Statement.{statement}
+use Rattle.rfc3629.proofs.ascii.eight.Tie as tie
 
 returns : tie.Need-returns
-unfolding asciiFront
-returns c = rw (lt-leb 8 _ (c .if1 .taken))
+returns c =
+    let s = now (c .before .before .args .s) in
+    sym (lt-leb 8 (asciiRun s) (omega (arith, run-there s)))
 
 returns-2 : tie.Need-returns-2
-unfolding asciiFront
 returns-2 c =
     let b6 = c .before .before in
     let b5 = b6 .before .before in
@@ -19,8 +23,9 @@ returns-2 c =
     let b2 = b3 .before .before in
     let b1 = b2 .before .before in
     let b0 = b1 .before .before in
+    let s = now (b0 .before .before .before .before .args .s) in
     rw (
-      le-leb 8 _ (b0 .before .before .if1 .left),
+      at-least 8 s (omega arith),
       b0 .is-utf8-1 .ensures,
       b1 .is-utf8-12 .ensures,
       b2 .is-utf8-13 .ensures,
@@ -31,8 +36,8 @@ returns-2 c =
       c .is-utf8-18 .ensures,
     )
 
-pub eight-utf8-1-spec : {M : Type 1} → statement M
-eight-utf8-1-spec =
+pub eight-spec : {M : Type 1} → statement M
+eight-spec =
     tie.close
     (tie.spec
     returns
