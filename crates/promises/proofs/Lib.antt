@@ -8,3 +8,4 @@ pub mod ReadBack
 pub mod Index
 pub mod Editions
 pub mod UnitValues
+pub mod Utf8

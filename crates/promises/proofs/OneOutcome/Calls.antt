@@ -8,6 +8,7 @@ use contract.Lifetimes.{Lfts}
 use denote.Ref.{RefT}
 use Rattle.attribute.specs.declared.Reading.{Reading}
 use Rattle.attribute.specs.declared.Dictionary.{Dictionary}
+use Rattle.rfc3629.proofs.is_utf8.Reads as is-utf8
 use Rattle.record.specs.Record.{Record}
 use Rattle.record.proofs.Record.put.Reads as put
 use Rattle.avps.specs.declared.Filled.{Filled}
@@ -35,10 +36,14 @@ use Rattle.tandrekily.proofs.tandrekily_compare.Reads as tandrekily-compare
 use Rattle.tandrekily.proofs.tandrekily_find.Reads as tandrekily-find
 use Rattle.tandrekily.proofs.tandrekily_next.Reads as tandrekily-next
 use Rattle.tandrekily.proofs.tandrekily_write.Reads as tandrekily-write
+use Rattle.tandrekily.proofs.tandrekily_is_utf8.Reads as tandrekily-is-utf8
 
 -- a reference to a slice of numbers; `now` is what it holds
 abbrev pub Slice : Type 0
 Slice = RefT (List ℕ)
+
+abbrev pub IsUtf8 : Lfts 1 → Slice → Bool → Type 0
+IsUtf8 κs s r = is-utf8.Post κs (s, tt) r (s, tt)
 
 abbrev pub RecordPut : Lfts 1 → Record → Slice → Bool → Slice → Type 0
 RecordPut κs self store r store′ = put.Post κs (self, (store, tt)) r (self, (store′, tt))
@@ -108,3 +113,6 @@ abbrev pub TandrekilyWrite : Lfts 4 → ℕ → ℕ → ℕ → ℕ → ℕ → 
 TandrekilyWrite κs flags code appId hopId endId table pool out result out′ result′ =
     tandrekily-write.Post κs (flags, (code, (appId, (hopId, (endId, (table, (pool, (out, (result, tt))))))))) tt
     (flags, (code, (appId, (hopId, (endId, (table, (pool, (out′, (result′, tt)))))))))
+
+abbrev pub TandrekilyIsUtf8 : Lfts 1 → Slice → Bool → Type 0
+TandrekilyIsUtf8 κs text r = tandrekily-is-utf8.Post κs (text, tt) r (text, tt)
