@@ -1,5 +1,6 @@
-"""Makes what crates/witness must write: python3 oracle/witness.py RFC6733 RFC4006 RFC8506 RUST > crates/witness/stdout
+"""Makes what crates/witness must write: python3 oracle/witness.py RFC3629 RFC6733 RFC4006 RFC8506 RUST > crates/witness/stdout
 
+RFC3629 is the text of that RFC: its lines of section 4 give the ranges of UTF-8, the texts at their ends and what is well-formed.
 RFC6733 is the text of that RFC (rfc-editor.org/rfc/rfc6733.txt): its table of section 4.5 gives codes, names and data types, and its
 pictures in sections 3 and 4.1 the flag bits. RFC4006 and RFC8506 are the texts of those: their tables of section 8 give the codes and
 data types of each edition. RUST is sawp-diameter/src/lib.rs: its enums give the names of its codes and the numbers of the kinds, and
@@ -44,6 +45,18 @@ def edition_table(text):
     """Code: data type, of section 8 of RFC 4006 or RFC 8506. Only the first line of a name has its code."""
     section = text[text.rindex("\n8.  Credit-Control AVPs") : text.rindex("\n8.1.  CC-Correlation-Id AVP")]
     return {int(code): kind for code, kind in re.findall(r"^   [A-Z].* +(\d+) +8\.\d+ +(\w+) *\|", section, re.M)}
+
+
+def utf8_rows(text):
+    """The alternatives of UTF8-char, of RFC 3629, section 4, each a list of the (lowest, highest) of its bytes."""
+    section = text[text.rindex("UTF8-octets =") : text.rindex("NOTE -- The authoritative definition")]
+    rules = {name: first + more for name, first, more in re.findall(r"^   (UTF8-\w+) += (.*)\n((?: {17}.*\n)*)", section, re.M)}
+
+    def row(alternative):
+        elements = re.findall(r"(?:(\d)\( )?(?:%x(\w\w)(?:-(\w\w))?|(UTF8-tail))", alternative)
+        return [r for n, low, high, tail in elements for r in int(n or 1) * (row(rules[tail]) if tail else [(int(low, 16), int(high or low, 16))])]
+
+    return [row(alternative) for name in rules["UTF8-char"].split(" / ") for alternative in rules[name].split("/")]
 
 
 def rust_names(text):
@@ -206,23 +219,34 @@ def comparisons():
         line("compare", *words, number, order)
 
 
+def texts(rows):
+    """Both ends of each range and one outside, the other bytes of the row at their lowest and then at their highest."""
+    octets = re.compile(b"(?:%s)*" % b"|".join(b"".join(b"[\\x%02x-\\x%02x]" % r for r in row) for row in rows))
+    for row in rows:
+        for at, (low, high) in enumerate(row):
+            for others in zip(*row):
+                for b in (low - 1, low, high, high + 1):
+                    if 0 <= b <= 255:
+                        text = bytes((*others[:at], b, *others[at + 1 :]))
+                        line("utf8", octets.fullmatch(text) is not None, *text)
+
+
 def library():
     readings()
     line("header-alone", *answered(lambda: (model.header_alone(P8)[0], 0, 0, 20, b""), 0, P8)[0])
     searches()
     writes()
-    for text in map(bytes.fromhex, ("41", "eda080", "f48fbfbf")):
-        line("utf8", model.well_formed(text), *text)
     by_edition()
     comparisons()
 
 
 def main():
-    rfc_text, rfc4006_text, rfc8506_text, rust_text = (open(path, encoding="utf-8").read() for path in sys.argv[1:])
+    rfc3629_text, rfc_text, rfc4006_text, rfc8506_text, rust_text = (open(path, encoding="utf-8").read() for path in sys.argv[1:])
     codes(rfc_text, rust_text)
     editions(rfc_text, {4006: rfc4006_text, 8506: rfc8506_text}, rust_text)
     flags(rfc_text)
     numbers()
+    texts(utf8_rows(rfc3629_text))
     library()
 
 

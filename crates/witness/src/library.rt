@@ -137,19 +137,6 @@ fn writes() {
     write(&mut [LENT; 35]);
 }
 
-fn utf8(text: &[u8]) {
-    print::label(b"utf8");
-    print::bit(tandrekily::tandrekily_is_utf8(text));
-    print::bytes(text);
-    print::end();
-}
-
-fn texts() {
-    utf8(b"A");
-    utf8(b"\xED\xA0\x80");
-    utf8(b"\xF4\x8F\xBF\xBF");
-}
-
 // What the order holds before a comparison.
 const NO_ORDER: i32 = 7;
 
@@ -212,7 +199,6 @@ pub(super) fn lines() {
     next(21);
     next(36);
     writes();
-    texts();
     by_edition();
     comparisons();
     bad_exponents();

@@ -7,11 +7,13 @@ mod library;
 mod names;
 mod numbers;
 mod print;
+mod texts;
 
 fn main() {
     codes::lines();
     by_edition::lines();
     bits::lines();
     numbers::lines();
+    texts::lines();
     library::lines();
 }

@@ -1,0 +1,59 @@
+// Texts at both ends of each range of RFC 3629, section 4, and one outside: each byte of a row in turn, while the others stand at their
+// lowest and then at their highest. oracle/witness.py makes the same texts from the RFC's own lines.
+use crate::print;
+
+fn utf8(text: &[u8]) {
+    print::label(b"utf8");
+    print::bit(tandrekily::tandrekily_is_utf8(text));
+    print::bytes(text);
+    print::end();
+}
+
+// The first bytes of a text, `size` of them.
+fn front(text: [u8; 4], size: usize) {
+    match size {
+        1 => utf8(&[text[0]]),
+        2 => utf8(&[text[0], text[1]]),
+        3 => utf8(&[text[0], text[1], text[2]]),
+        _ => utf8(&text),
+    }
+}
+
+fn with(mut text: [u8; 4], size: usize, at: usize, b: u8) {
+    if at < 4 {
+        text[at] = b;
+        front(text, size);
+    }
+}
+
+fn around(text: [u8; 4], size: usize, at: usize, low: u8, high: u8) {
+    if low > 0 {
+        with(text, size, at, low - 1);
+    }
+    with(text, size, at, low);
+    with(text, size, at, high);
+    if high < 255 {
+        with(text, size, at, high + 1);
+    }
+}
+
+fn row(size: usize, low: [u8; 4], high: [u8; 4]) {
+    for at in 0..4 {
+        if at < size {
+            around(low, size, at, low[at], high[at]);
+            around(high, size, at, low[at], high[at]);
+        }
+    }
+}
+
+pub(super) fn lines() {
+    row(1, [0x00, 0, 0, 0], [0x7F, 0, 0, 0]);
+    row(2, [0xC2, 0x80, 0, 0], [0xDF, 0xBF, 0, 0]);
+    row(3, [0xE0, 0xA0, 0x80, 0], [0xE0, 0xBF, 0xBF, 0]);
+    row(3, [0xE1, 0x80, 0x80, 0], [0xEC, 0xBF, 0xBF, 0]);
+    row(3, [0xED, 0x80, 0x80, 0], [0xED, 0x9F, 0xBF, 0]);
+    row(3, [0xEE, 0x80, 0x80, 0], [0xEF, 0xBF, 0xBF, 0]);
+    row(4, [0xF0, 0x90, 0x80, 0x80], [0xF0, 0xBF, 0xBF, 0xBF]);
+    row(4, [0xF1, 0x80, 0x80, 0x80], [0xF3, 0xBF, 0xBF, 0xBF]);
+    row(4, [0xF4, 0x80, 0x80, 0x80], [0xF4, 0x8F, 0xBF, 0xBF]);
+}
