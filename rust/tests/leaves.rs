@@ -15,19 +15,42 @@ fn any_text(random: &mut Random) -> Vec<u8> {
     text
 }
 
+/// A text behind up to 20 letters and before up to 20, as a name is that has one letter of another script.
+fn amid_letters(text: &[u8], random: &mut Random) -> Vec<u8> {
+    let mut letters = || vec![b'a'; random.next() as usize % 21];
+    [&letters(), text, &letters()].concat()
+}
+
+fn agrees(text: &[u8]) {
+    assert_eq!(
+        is_utf8(text),
+        std::str::from_utf8(text).is_ok(),
+        "{text:02x?}"
+    );
+}
+
 #[test]
 fn utf8_as_the_standard_library_has_it() {
     let mut random = Random(1);
     let texts: Vec<Vec<u8>> = (0..20_000).map(|_| any_text(&mut random)).collect();
     for text in &texts {
-        assert_eq!(
-            is_utf8(text),
-            std::str::from_utf8(text).is_ok(),
-            "{text:02x?}"
-        );
+        agrees(text);
+        agrees(&amid_letters(text, &mut random));
     }
     let well_formed = |size| texts.iter().any(|text| text.len() == size && is_utf8(text));
     assert!((0..=4).all(well_formed), "some size has no text to accept");
+}
+
+/// By `rust/test --release -- --ignored`: in a build for speed it takes a minute.
+#[test]
+#[ignore = "2^32 texts"]
+fn every_text_of_up_to_four_bytes() {
+    agrees(&[]);
+    for size in 1..=4 {
+        for text in 0..=u32::MAX >> (32 - 8 * size) {
+            agrees(&text.to_be_bytes()[4 - size..]);
+        }
+    }
 }
 
 #[test]
