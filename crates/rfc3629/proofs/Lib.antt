@@ -2,4 +2,5 @@ pub mod Matches
 pub mod Rows
 pub mod Grammar
 pub mod Runs
+pub mod Lines
 pub mod Characters

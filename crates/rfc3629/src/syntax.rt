@@ -2,7 +2,7 @@
 // Tests are joined by `&` and `|`, which do not branch.
 ghost use mathlib.Core.Path.{_≡_};
 ghost use mathlib.Core.List.{[], _∷_};
-ghost use Rattle.rfc3629.specs.Abnf.{range};
+ghost use Rattle.rfc3629.specs.Abnf.{byte, range};
 ghost use Rattle.rfc3629.specs.Syntax.{UTF8-tail, UTF8-1, UTF8-2, UTF8-3, UTF8-4};
 ghost use Rattle.rfc3629.specs.Utf8.{within, matchesAny};
 
@@ -25,9 +25,9 @@ pub(super) fn is_utf8_2(a: u8, b: u8) -> bool
 pub(super) fn is_utf8_3(a: u8, b: u8, c: u8) -> bool
     ensures { λ r. ⌜ r ≡ matchesAny UTF8-3 (a ∷ b ∷ c ∷ []) ⌝ }
 {
-    ((a == 0xE0) & in_range(b, 0xA0, 0xBF) & is_tail(c))
+    (is_byte(a, 0xE0) & in_range(b, 0xA0, 0xBF) & is_tail(c))
         | (in_range(a, 0xE1, 0xEC) & is_tail(b) & is_tail(c))
-        | ((a == 0xED) & in_range(b, 0x80, 0x9F) & is_tail(c))
+        | (is_byte(a, 0xED) & in_range(b, 0x80, 0x9F) & is_tail(c))
         | (in_range(a, 0xEE, 0xEF) & is_tail(b) & is_tail(c))
 }
 
@@ -36,9 +36,9 @@ pub(super) fn is_utf8_3(a: u8, b: u8, c: u8) -> bool
 pub(super) fn is_utf8_4(a: u8, b: u8, c: u8, d: u8) -> bool
     ensures { λ r. ⌜ r ≡ matchesAny UTF8-4 (a ∷ b ∷ c ∷ d ∷ []) ⌝ }
 {
-    ((a == 0xF0) & in_range(b, 0x90, 0xBF) & is_tail(c) & is_tail(d))
+    (is_byte(a, 0xF0) & in_range(b, 0x90, 0xBF) & is_tail(c) & is_tail(d))
         | (in_range(a, 0xF1, 0xF3) & is_tail(b) & is_tail(c) & is_tail(d))
-        | ((a == 0xF4) & in_range(b, 0x80, 0x8F) & is_tail(c) & is_tail(d))
+        | (is_byte(a, 0xF4) & in_range(b, 0x80, 0x8F) & is_tail(c) & is_tail(d))
 }
 
 // UTF8-tail   = %x80-BF
@@ -46,6 +46,13 @@ fn is_tail(b: u8) -> bool
     ensures { λ r. ⌜ r ≡ within UTF8-tail b ⌝ }
 {
     in_range(b, 0x80, 0xBF)
+}
+
+// %xB
+fn is_byte(b: u8, value: u8) -> bool
+    ensures { λ r. ⌜ r ≡ within (byte value) b ⌝ }
+{
+    b == value
 }
 
 // %xLOW-HIGH

@@ -9,8 +9,8 @@ use denote.Ref.{now}
 use borrow.Author.Needs.{needs}
 use Rattle.rfc3629.specs.Syntax.{UTF8-1, UTF8-2, UTF8-3, UTF8-4}
 use Rattle.rfc3629.specs.Utf8.{matchesAny, charSize}
-use Rattle.rfc3629.proofs.Characters.{short, first, size-is}
 use Rattle.rfc3629.proofs.Grammar.{char-there}
+use Rattle.rfc3629.proofs.Lines.{short, first, size-is}
 use Rattle.rfc3629.proofs.char_size.Statement.{statement}
 use Rattle.rfc3629.proofs.char_size.Tie as tie
 
