@@ -1,6 +1,7 @@
-"""Makes what crates/witness must write: python3 oracle/witness.py RFC3629 RFC6733 RFC4006 RFC8506 RUST > crates/witness/stdout
+"""Makes what crates/witness must write: python3 oracle/witness.py RFC3629 RFC4330 RFC6733 RFC4006 RFC8506 RUST > crates/witness/stdout
 
 RFC3629 is the text of that RFC: its lines of section 4 give the ranges of UTF-8, the texts at their ends and what is well-formed.
+RFC4330 is the text of that RFC: its section 3 says from when a Time is reckoned with its top bit set and with it clear.
 RFC6733 is the text of that RFC (rfc-editor.org/rfc/rfc6733.txt): its table of section 4.5 gives codes, names and data types, and its
 pictures in sections 3 and 4.1 the flag bits. RFC4006 and RFC8506 are the texts of those: their tables of section 8 give the codes and
 data types of each edition. RUST is sawp-diameter/src/lib.rs: its enums give the names of its codes and the numbers of the kinds, and
@@ -11,6 +12,7 @@ import calendar
 import functools
 import re
 import sys
+import time
 
 import model
 
@@ -57,6 +59,14 @@ def utf8_rows(text):
         return [r for n, low, high, tail in elements for r in int(n or 1) * (row(rules[tail]) if tail else [(int(low, 16), int(high or low, 16))])]
 
     return [row(alternative) for name in rules["UTF8-char"].split(" / ") for alternative in rules[name].split("/")]
+
+
+def time_starts(text):
+    """From when a Time is reckoned with its top bit clear and with it set, in Unix seconds: RFC 4330, section 3, over the turn of a page."""
+    words = re.sub(r"\s+", " ", re.sub(r"^(?:Mills|RFC 4330) .*$", "", text, flags=re.M))
+    section = words[words.rindex("3. NTP Timestamp Format") : words.rindex("4. Message Format")]
+    when = dict(re.findall(r"If bit 0 is (set|not set), .*? UTC time is reckoned from (\d+h \d+m \d+s UTC on \d+ \w+ \d+)", section))
+    return [calendar.timegm(time.strptime(when[bit], "%Hh %Mm %Ss UTC on %d %B %Y")) for bit in ("not set", "set")]
 
 
 def rust_names(text):
@@ -121,13 +131,13 @@ def flags(rfc_text):
         line("avp", byte, vendor, vendor, *(byte & avp[b] != 0 for b in "MP"), byte & avp["r"], size, size)
 
 
-def numbers():
+def numbers(starts):
     for length in (19, 20, 2**24 - 1):
         line("stated", length, max(length - 20, 0))
     for length, available in ((20, 8), (20, 20)):
         line("length", length, available, *(["absent", length - available] if available < length else ["enough"]))
     for bits in (0, 1, 2**31 - 1, 2**31, 2208988800, 2**32 - 1):
-        unix = bits + calendar.timegm((1900, 1, 1, 0, 0, 0))
+        unix = starts[bits >> 31] + bits
         line("signed", bits, int.from_bytes(bits.to_bytes(4, "big"), "big", signed=True), unix, unix)
     for size in (32, 64):
         for bits in (0, 1, 2 ** (size - 1) - 1, 2 ** (size - 1), 2**size - 1):
@@ -241,11 +251,11 @@ def library():
 
 
 def main():
-    rfc3629_text, rfc_text, rfc4006_text, rfc8506_text, rust_text = (open(path, encoding="utf-8").read() for path in sys.argv[1:])
+    rfc3629_text, rfc4330_text, rfc_text, rfc4006_text, rfc8506_text, rust_text = (open(path, encoding="utf-8").read() for path in sys.argv[1:])
     codes(rfc_text, rust_text)
     editions(rfc_text, {4006: rfc4006_text, 8506: rfc8506_text}, rust_text)
     flags(rfc_text)
-    numbers()
+    numbers(time_starts(rfc4330_text))
     texts(utf8_rows(rfc3629_text))
     library()
 

@@ -18,3 +18,4 @@ pub mod FirstRecord
 pub mod Demand3
 pub mod MarkedMessages
 pub mod KindsRead
+pub mod Times

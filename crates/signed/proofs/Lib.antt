@@ -1,4 +1,4 @@
-mod Differences
+mod Sums
 mod Patterns
 pub mod Signs
 pub mod Casts

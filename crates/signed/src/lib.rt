@@ -52,12 +52,20 @@ pub fn magnitude(n: i64) -> u64
     (-1 - n) as u64 + 1
 }
 
-// Seconds from 1900, from which Time counts, to 1970.
-const UNIX_EPOCH: i64 = 2_208_988_800;
+// With its top bit clear a Time is reckoned from 2036-02-07 06:28:16 UTC, with it set from 1900 (RFC 4330, section 3).
+const TOP_BIT: u32 = 0x8000_0000;
 
-/// A Time of the RFC reading in Unix seconds.
+// Seconds from 1900 to 1970, where Unix begins, and from there to that second of 2036.
+const FROM_1900: i64 = 2_208_988_800;
+
+const TO_2036: i64 = 2_085_978_496;
+
+/// A Time of the RFC reading in Unix seconds, from 1968-01-20 03:14:08 to 2104-02-26 09:42:23 UTC.
 pub fn unix_seconds(time: u32) -> i64
     ensures { λ r. ⌜ r ≡ unixSeconds time ⌝ }
 {
-    time as i64 - UNIX_EPOCH
+    if time < TOP_BIT {
+        return time as i64 + TO_2036;
+    }
+    time as i64 - FROM_1900
 }

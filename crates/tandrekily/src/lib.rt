@@ -318,7 +318,7 @@ pub extern "C" fn tandrekily_is_utf8(text: &[u8]) -> bool
     rfc3629::is_utf8(text)
 }
 
-/// A Time of the RFC reading in Unix seconds.
+/// A Time of the RFC reading in Unix seconds, from 1968-01-20 03:14:08 to 2104-02-26 09:42:23 UTC.
 #[no_mangle]
 pub extern "C" fn tandrekily_unix_seconds(time: u32) -> i64
     ensures { λ r. ⌜ r ≡ unixSeconds time ⌝ }

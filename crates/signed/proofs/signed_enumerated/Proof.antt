@@ -1,7 +1,7 @@
 -- `signed_enumerated` meets its contract: the lower half of the patterns are the numbers themselves, and the upper half those less 2 ^ 32.
 use borrow.Author.Needs.{needs}
 use native.Mathlib.Omega.{arith}
-use Rattle.signed.proofs.Differences.{difference-fits, lower-half, upper-half}
+use Rattle.signed.proofs.Sums.{difference-fits, lower-half, upper-half}
 use Rattle.signed.proofs.signed_enumerated.Statement.{statement}
 use Rattle.signed.proofs.signed_enumerated.Tie as tie
 
