@@ -9,3 +9,4 @@ pub mod Index
 pub mod Editions
 pub mod UnitValues
 pub mod Utf8
+pub mod Times

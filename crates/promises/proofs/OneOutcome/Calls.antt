@@ -18,6 +18,7 @@ use Rattle.diameter.proofs.parse.Reads as parse
 use Rattle.diameter.proofs.parse_avp.Reads as parse-avp
 use Rattle.diameter.proofs.parse_by.Reads as parse-by
 use Rattle.diameter.proofs.parse_avp_by.Reads as parse-avp-by
+use Rattle.signed.proofs.unix_seconds.Reads as unix-seconds
 use Rattle.unit_value.specs.declared.UnitValue.{UnitValue}
 use Rattle.unit_value.specs.declared.Compared.{Compared}
 use Rattle.unit_value.proofs.compare.Reads as compare
@@ -37,6 +38,7 @@ use Rattle.tandrekily.proofs.tandrekily_find.Reads as tandrekily-find
 use Rattle.tandrekily.proofs.tandrekily_next.Reads as tandrekily-next
 use Rattle.tandrekily.proofs.tandrekily_write.Reads as tandrekily-write
 use Rattle.tandrekily.proofs.tandrekily_is_utf8.Reads as tandrekily-is-utf8
+use Rattle.tandrekily.proofs.tandrekily_unix_seconds.Reads as tandrekily-unix-seconds
 
 -- a reference to a slice of numbers; `now` is what it holds
 abbrev pub Slice : Type 0
@@ -65,6 +67,9 @@ ParseBy κs edition limit input store r store′ =
 abbrev pub ParseAvpBy : Lfts 2 → ℕ → ℕ → Slice → Slice → Filled → Slice → Type 0
 ParseAvpBy κs edition limit input store r store′ =
     parse-avp-by.Post κs (edition, (limit, (input, (store, tt)))) r (edition, (limit, (input, (store′, tt))))
+
+abbrev pub UnixSeconds : ℕ → ℤ → Type 0
+UnixSeconds time r = unix-seconds.Post tt (time, tt) r (time, tt)
 
 abbrev pub Compare : UnitValue → UnitValue → Compared → Type 0
 Compare a b r = compare.Post tt (a, (b, tt)) r (a, (b, tt))
@@ -116,3 +121,6 @@ TandrekilyWrite κs flags code appId hopId endId table pool out result out′ re
 
 abbrev pub TandrekilyIsUtf8 : Lfts 1 → Slice → Bool → Type 0
 TandrekilyIsUtf8 κs text r = tandrekily-is-utf8.Post κs (text, tt) r (text, tt)
+
+abbrev pub TandrekilyUnixSeconds : ℕ → ℤ → Type 0
+TandrekilyUnixSeconds time r = tandrekily-unix-seconds.Post tt (time, tt) r (time, tt)
