@@ -44,7 +44,7 @@ MEMBERS = {
 
 WORDS = (0, 1, 2, 2001, 3600, 5012, 0x7FFFFFFF, 0x80000000, 0xFFFFFFFE, 0xFFFFFFFF)
 LONG_WORDS = (*WORDS, 1 << 32, (1 << 63) - 1, 1 << 63, (1 << 64) - 1)
-# 1900; around the top bit, in 1968; around 1970; in 2004 and 2026; the last second before the count starts again, in 2036
+# the turn of 2036; the last of all, in 2104, and the first, in 1968; around 1970; in 2004 and 2026; the last before the turn
 TIMES = (0, 0x7FFFFFFF, 0x80000000, 0x83AA7E7F, 0x83AA7E80, 0xC3A1E4B0, 0xED2F0A11, 0xFFFFFFFF)
 TEXTS = (
     "", "a", "ab", "abc", "host.example.net;1876543210;523;mobile@200.1.1.88", 'He said "no" & <left>', "Grüße", "Ελλάδα", "日本語", "\U0001F600",

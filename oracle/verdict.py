@@ -1,6 +1,6 @@
 """Sets tshark's fields of a message beside our records of it, in the RFC reading or by an edition.
 
-Where the two are known to part, the departure is counted under its number in docs/DIFFERENCES.md: D3 wrong lengths, D7 other families of addresses, D10 Time.
+Where the two are known to part, the departure is counted under its number in docs/DIFFERENCES.md: D3 wrong lengths, D7 other families of addresses.
 """
 import calendar
 import ipaddress
@@ -29,7 +29,9 @@ HEADER = {
     "version": (0, 1), "message length": (1, 4), "message flags": (4, 5), "command code": (5, 8), "application": (8, 12), "hop-by-hop": (12, 16),
     "end-to-end": (16, 20),
 }
-TO_UNIX, WRAP = 2208988800, 1 << 32
+# Seconds from 1900 to 1970 and from there to the turn of 2036.
+FROM_1900, TO_2036 = 2208988800, 2085978496
+WRAP = 1 << 32
 
 
 def head_size(record):
@@ -69,19 +71,17 @@ def our_value(kind, record, data):
     if kind == INTEGER64:
         return signed(number, 64)
     if kind == TIME:
-        return number - TO_UNIX
+        return number + TO_2036 if number < WRAP // 2 else number - FROM_1900
     return number if kind in NUMBERS else data.decode(errors="replace")
 
 
-def shown_value(kind, avp, listed):
+def shown_value(kind, avp):
     """tshark's value; a number of a listed type by its bits, and text of one by its bytes."""
     text = avp.field.get("show")
     if kind == ADDRESS:
         return int(avp.part("addr_family")), ipaddress.ip_address(avp.part("IPv4") or avp.part("IPv6")).packed
     if kind == TIME:
-        again = be(avp.data) < WRAP // 2
-        listed["D10"] += again
-        return calendar.timegm(time.strptime(text.split(".")[0], "%b %d, %Y %H:%M:%S")) - WRAP * again
+        return calendar.timegm(time.strptime(text.split(".")[0], "%b %d, %Y %H:%M:%S"))
     if kind in NUMBERS:
         return int(text) % WRAP if avp.code in LISTED else int(text)
     if not avp.data:
@@ -107,7 +107,7 @@ def of_avp(record, avp, data, listed):
     listed["D7"] += kind == UNHANDLED and avp.type == "Address"
     yield "kind", record[17], kind
     if kind not in (UNHANDLED, GROUPED):
-        yield NAMES[kind], our_value(kind, record, data), shown_value(kind, avp, listed)
+        yield NAMES[kind], our_value(kind, record, data), shown_value(kind, avp)
 
 
 def compared(message, tree, types, listed):
