@@ -210,7 +210,10 @@ void tandrekily_write(uint8_t flags, uint32_t command_code, uint32_t application
 // Is the text well-formed UTF-8 (RFC 3629)? The empty text is.
 bool tandrekily_is_utf8(const uint8_t *text, size_t text_length);
 
-// The value of a Time, seconds since 1900, in Unix seconds: `time` - 2,208,988,800.
+// The value of a Time in Unix seconds. Time goes on after 2036 as RFC 6733, section 4.3.1, asks (RFC 4330, section 3):
+//   0x80000000 to 0xFFFFFFFF: `time` - 2,208,988,800, from 1968-01-20 03:14:08 to 2036-02-07 06:28:15 UTC
+//   0 to 0x7FFFFFFF: `time` + 2,085,978,496, from 2036-02-07 06:28:16 to 2104-02-26 09:42:23 UTC
+// 0 is a time like any other.
 int64_t tandrekily_unix_seconds(uint32_t time);
 
 // The number behind the value of an Integer32, and of an Enumerated where RFC 6733 is followed.

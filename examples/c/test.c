@@ -187,6 +187,8 @@ static const struct acceptance avps_accepted[] = {
      "00000101 00 00000E 00000000 00000008 01 0D 00 02 00000000 00000000 C0000201", {0, 0, 0, 1, 1, 16}},
     {"AVP: vendor, reserved bits and padding", SAWP, 1, "0000002C 9F 00000E 000028AF ABCD 1234",
      "0000002C 9F 00000E 000028AF 0000000C 01 01 0C 02 12340000 00000000 00000000", {0, 0, 12, 1, 1, 16}},
+    {"AVP: an Event-Timestamp of March 2036 keeps its bits", RFC, 1, "00000037 40 00000C 001DF780",
+     "00000037 40 00000C 00000000 00000008 01 0E 00 00 00000000 00000000 001DF780", {0, 0, 0, 1, 1, 12}},
 };
 
 // The store ends with the last record, or has room for five bytes or a record and five bytes more: all zero then.
@@ -600,10 +602,13 @@ static void seconds(uint32_t time, int64_t expected) {
 }
 
 static void times(void) {
-    seconds(0, -INT64_C(2208988800));
+    seconds(0x80000000, -INT64_C(61505152));
     seconds(2208988799u, -1);
     seconds(2208988800u, 0);
     seconds(UINT32_MAX, INT64_C(2085978495));
+    seconds(0, INT64_C(2085978496));
+    seconds(0x1DF780, INT64_C(2087942400));
+    seconds(0x7FFFFFFF, INT64_C(4233462143));
 }
 
 static void signs(void) {

@@ -37,6 +37,7 @@ enum { TOUCHED_IF_REFUSED = 20, TAIL_IF_ACCEPTED = 21, OTHER_READING = 22, OTHER
 enum { OTHER_CODE = 24, LAST = 25, NONE_IF_NOT_TILED = 26, NOT_TILED_IF_NONE = 27 };
 enum { STAYS = 28, FURTHER = 29, LATER = 30 };
 enum { OTHER_EDITION = 31, ANY_EDITION, LOW_BITS, EDITION_BEFORE_LIMIT, INPUT_BEFORE_EDITION, NO_EDITION, SIGN_EXTENDED };
+enum { A_SECOND_LATE, OLD_RULE, OTHER_WAY, SHORT_AT_THE_TURN, IN_32_BITS };
 enum { OFF_BY_ONE, NO_SIGN };
 enum { OTHER_ANSWER, OPPOSITE, NEVER_EQUAL, ORDER_IF_REFUSED, TAKES_19, TAKES_MINUS_19, REFUSES_18, REFUSES_MINUS_18 };
 enum { EXPONENT_LOW_BITS = 8, NO_EXPONENTS, FIRST_ALONE, SECOND_ALONE, ZEROS_TAKEN, SIGNS_TAKEN, DOUBLES, WRAPPED, WHOLE };
@@ -126,7 +127,17 @@ bool __wrap_tandrekily_is_utf8(const uint8_t *text, size_t n) {
 }
 
 int64_t __wrap_tandrekily_unix_seconds(uint32_t time) {
-    return __real_tandrekily_unix_seconds(time) + (wrong(UNIX_SECONDS) == 0);
+    int64_t seconds = __real_tandrekily_unix_seconds(time);
+    int64_t era = INT64_C(1) << 32;
+    bool top_bit = time >= 0x80000000;
+    switch (wrong(UNIX_SECONDS)) {
+    case A_SECOND_LATE: return seconds + 1;
+    case OLD_RULE: return top_bit ? seconds : seconds - era;
+    case OTHER_WAY: return top_bit ? seconds + era : seconds - era;
+    case SHORT_AT_THE_TURN: return top_bit ? seconds : seconds - 1;
+    case IN_32_BITS: return (int32_t)seconds;
+    default: return seconds;
+    }
 }
 
 // ---- by an edition

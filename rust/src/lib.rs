@@ -369,10 +369,21 @@ pub fn is_utf8(text: &[u8]) -> bool {
     ffi::is_utf8(text)
 }
 
-/// A [`Time`](Value::Time) in Unix seconds: 2,208,988,800 less, as 1970 is so much later than 1900.
+/// A [`Time`](Value::Time) in Unix seconds. It goes on after 2036 as RFC 6733, section 4.3.1, asks (RFC 4330, section 3).
+///
+/// | `time` | Unix seconds | UTC |
+/// |---|---|---|
+/// | 0x80000000 to 0xFFFFFFFF | `time` - 2,208,988,800 | 1968-01-20 03:14:08 to 2036-02-07 06:28:15 |
+/// | 0 to 0x7FFFFFFF | `time` + 2,085,978,496 | 2036-02-07 06:28:16 to 2104-02-26 09:42:23 |
+///
+/// 0 is a time like any other.
 ///
 /// ```
-/// assert_eq!(tandrekily::unix_seconds(2_208_988_800), 0);
+/// use tandrekily::unix_seconds;
+///
+/// assert_eq!(unix_seconds(2_208_988_800), 0);
+/// // March 2036 begins
+/// assert_eq!(unix_seconds(1_963_904), 2_087_942_400);
 /// ```
 pub fn unix_seconds(time: u32) -> i64 {
     ffi::unix_seconds(time)

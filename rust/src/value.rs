@@ -73,7 +73,7 @@ pub enum Value<'a> {
     DiameterUri(&'a str),
     /// An IP address.
     Address(IpAddr),
-    /// Seconds since 1900; see [`unix_seconds`](crate::unix_seconds).
+    /// The 32 bits of a time, which [`unix_seconds`](crate::unix_seconds) reads as one from 1968 to 2104.
     Time(u32),
 }
 

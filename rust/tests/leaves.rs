@@ -55,7 +55,24 @@ fn every_text_of_up_to_four_bytes() {
 
 #[test]
 fn seconds() {
-    assert_eq!(unix_seconds(0), -2_208_988_800);
+    assert_eq!(unix_seconds(0x8000_0000), -61_505_152);
     assert_eq!(unix_seconds(2_208_988_800), 0);
     assert_eq!(unix_seconds(u32::MAX), 2_085_978_495);
+    assert_eq!(unix_seconds(0), 2_085_978_496);
+    assert_eq!(unix_seconds(0x7FFF_FFFF), 4_233_462_143);
+}
+
+#[test]
+fn a_second_after_another() {
+    let mut random = Random(2);
+    let times = (0..20_000).map(|_| random.next() as u32);
+    for time in times.chain([0x8000_0000, u32::MAX, 0, 0x7FFF_FFFE]) {
+        if time != 0x7FFF_FFFF {
+            assert_eq!(
+                unix_seconds(time.wrapping_add(1)),
+                unix_seconds(time) + 1,
+                "{time}"
+            );
+        }
+    }
 }

@@ -4,7 +4,9 @@ mod frames;
 
 use frames::{be_u32, frames, LENT};
 use std::net::IpAddr;
-use tandrekily::{decode, decode_avp, decode_by, kinds, Limits, Message, Reading, Record, Value};
+use tandrekily::{
+    decode, decode_avp, decode_by, kinds, unix_seconds, Limits, Message, Reading, Record, Value,
+};
 
 /// An AVP of this code and these data.
 fn avp(code: u32, data: &[u8]) -> Vec<u8> {
@@ -45,6 +47,13 @@ fn numbers() {
     );
     check_both(55, &[0xFF; 4], Value::Time(u32::MAX));
     check_both(268, &[0, 0, 1], Value::Unhandled);
+}
+
+/// Event-Timestamp as March 2036 begins, 23 days after the seconds since 1900 have passed 32 bits.
+#[test]
+fn a_time_after_2036_keeps_its_bits() {
+    check_both(55, &1_963_904u32.to_be_bytes(), Value::Time(1_963_904));
+    assert_eq!(unix_seconds(1_963_904), 2_087_942_400);
 }
 
 #[test]
