@@ -49,7 +49,7 @@ fn numbers() {
     check_both(268, &[0, 0, 1], Value::Unhandled);
 }
 
-/// Event-Timestamp as March 2036 begins, 23 days after the seconds since 1900 have passed 32 bits.
+/// Event-Timestamp as March 2036 begins, three weeks after the seconds since 1900 have passed 32 bits.
 #[test]
 fn a_time_after_2036_keeps_its_bits() {
     check_both(55, &1_963_904u32.to_be_bytes(), Value::Time(1_963_904));
