@@ -14,7 +14,8 @@ CRATES = Path(__file__).resolve().parent.parent / "crates"
 # codes of RFC 6733: Class, Acct-Sub-Session-Id, Failed-AVP, Session-Id, Result-Code, Host-IP-Address; and Destination-Realm in the Rust
 CLASS, SUB_SESSION, FAILED, SESSION, RESULT, HOST, REALM = 25, 287, 279, 263, 268, 257, 235
 UNKNOWN = 0xFFFFFFFF
-ILL_FORMED = b"\xc0\x80"
+# text that broke at its second byte, and at its first
+CUT_OFF, OVERLONG = b"a\xe2\x82", b"\xc0\x80"
 
 
 def u24(n):
@@ -49,7 +50,7 @@ def filled(size, *avps):
 
 
 # in the RFC reading the first two are no text and so no error
-READINGS = [avp(CLASS, ILL_FORMED), avp(REALM, ILL_FORMED), avp(HOST, b"\0\1\x0a\0\0\1"), avp(HOST, b"\x0a\0\0\1")]
+READINGS = [avp(CLASS, CUT_OFF), avp(REALM, OVERLONG), avp(HOST, b"\0\1\x0a\0\0\1"), avp(HOST, b"\x0a\0\0\1")]
 # a vendor, a value of 64 bits, one of 32, and each flag of a record
 VALUES = [
     avp(RESULT, u32(2001), vendor=10415),

@@ -91,12 +91,12 @@ def kind_of(reading, code, vendor):
     return {25: 1, 235: 0, 283: 11}.get(code, KIND.get(code, 0))
 
 
-def well_formed(data):
+def text(kind, data):
     try:
         data.decode("utf-8", "strict")
-        return True
-    except UnicodeDecodeError:
-        return False
+        return kind, 0, 0
+    except UnicodeDecodeError as broken:
+        return 0, DATA_VALUE, broken.start
 
 
 def value(reading, kind, data):
@@ -107,7 +107,7 @@ def value(reading, kind, data):
             return 0, DATA_LENGTH, 0
         return kind, DATA_LENGTH if len(data) > width else 0, be(data[:width])
     if kind in (10, 11, 12):
-        return (kind, 0, 0) if well_formed(data) else (0, DATA_VALUE, 0)
+        return text(kind, data)
     if kind == 13 and reading == "sawp":
         if len(data) == 4:
             return 13, 0, be(data)

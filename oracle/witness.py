@@ -230,7 +230,7 @@ def comparisons():
 
 
 def texts(rows):
-    """Both ends of each range and one outside, the other bytes of the row at their lowest and then at their highest."""
+    """Both ends of each range and one outside, the other bytes of the row at their lowest and then at their highest: alone, and between letters."""
     octets = re.compile(b"(?:%s)*" % b"|".join(b"".join(b"[\\x%02x-\\x%02x]" % r for r in row) for row in rows))
     for row in rows:
         for at, (low, high) in enumerate(row):
@@ -238,7 +238,8 @@ def texts(rows):
                 for b in (low - 1, low, high, high + 1):
                     if 0 <= b <= 255:
                         text = bytes((*others[:at], b, *others[at + 1 :]))
-                        line("utf8", octets.fullmatch(text) is not None, *text)
+                        for whole in (text, b"a" + text + b"b"):
+                            line("utf8", octets.fullmatch(whole) is not None, octets.match(whole).end(), *whole)
 
 
 def library():

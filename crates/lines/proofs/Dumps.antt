@@ -1,12 +1,12 @@
 -- The text of an input, by what the decoder answers: the records that it stored are read back whole, so their lines are those of the
 -- definition, and the text fits.
-use Prim.Native.Nat.{ℕ, suc, _+_, _*_, _-_, _≤_, min}
+use Prim.Native.Nat.{ℕ, _+_, _*_, _-_, _≤_, min}
 use mathlib.Core.Path.{_≡_, refl, sym, ap, ap₂, _∙_}
 use mathlib.Core.Bool.{Bool, true, false}
-use mathlib.Core.List.{List, [], _∷_, _++_, append-assoc}
+use mathlib.Core.List.{List, _++_}
 use native.Mathlib.Omega.{arith}
 use lib.ListN.{length, take, replicate, length-append}
-use lib.Seq.{take-all, drop-at, length-take-le}
+use lib.Seq.{take-all, length-take-le}
 use lib.Dec.{leb}
 use borrow.Author.Tests.{leb-true, leb-false}
 use Rattle.io.specs.Counts as io
@@ -16,14 +16,14 @@ use Rattle.octets.proofs.Numbers.{be-small}
 use Rattle.refusal.specs.Answer.{Refusal, accepted, refused}
 use Rattle.rfc6733.specs.Header.{messageLength}
 use Rattle.rfc6733.specs.Dictionary.{sawp}
-use Rattle.record.specs.Record.{Record, recordSize, recordBytes, laid}
+use Rattle.record.specs.Record.{Record, recordSize, laid}
+use Rattle.record.specs.Table.{wholeRecords}
 use Rattle.rfc6733.specs.Decoder.{Counts, Message, runCounts, messageRecords, messageOf, decoded}
 use Rattle.rfc6733.specs.Dump.{recordLines, firstLine, line, linesText, dump, dumpText, dumped, refusalText}
 use Rattle.rfc6733.proofs.Accepted.{when-accepted}
-use Rattle.record.proofs.Layouts.{record-length, laid-length}
-use Rattle.round_trip.specs.Tables.{AllFit}
-use Rattle.round_trip.proofs.Whole.{AllValued, record-back, Whole, sawp-whole}
-use Rattle.lines.specs.Text.{wholeRecords, recordsText, messageText}
+use Rattle.record.proofs.Layouts.{laid-length}
+use Rattle.round_trip.proofs.Whole.{Whole, records-back, sawp-whole}
+use Rattle.lines.specs.Text.{recordsText, messageText}
 use Rattle.lines.proofs.Sizes.{records-short, first-short, refusal-short}
 
 -- the front of an input, no more than k bytes
@@ -33,15 +33,6 @@ front-is k n s e = by (leb (length s) k) refl
     by : (b : Bool) → leb (length s) k ≡ b → take n s ≡ take k s
     by true f = let h = leb-true (length s) k f in take-all n s (omega arith) ∙ sym (take-all k s h)
     by false f = let h = leb-false (length s) k f in let same : n ≡ k = omega arith in ap (λ (x : ℕ). take x s) same
-
--- records that were laid out are read back
-records-back : (rs : List Record) (more : List ℕ) → AllFit rs → AllValued rs → wholeRecords (length rs) (laid rs ++ more) ≡ rs
-records-back [] more f v = refl
-records-back (r ∷ rs) more f v =
-    let s = laid rs ++ more in
-    ap (wholeRecords (suc (length rs))) (append-assoc (recordBytes r) (laid rs) more)
-    ∙ ap₂ {C = List Record} (λ x y. x ∷ y) (record-back r s (f .0) (v .0))
-    (ap (wholeRecords (length rs)) (drop-at (recordBytes r) s recordSize (record-length r)) ∙ records-back rs more (f .1) (v .1))
 
 -- the text of an input is `text`, and an array of 65,600 bytes has room for it
 pub record Text (s text : List ℕ) : Type 0 where
@@ -85,7 +76,7 @@ module _ (s front : List ℕ) (front-of : front ≡ take 32768 s) where
     accepted-text table t =
         let a = when-accepted sawp 64 1024 front m e in
         let lines : recordsText (m .counts .records) table ≡ linesText (recordLines rs) =
-        ap (λ (x : List Record). linesText (recordLines x)) (ap₂ wholeRecords as-many t ∙ records-back rs _ (whole .fits) (whole .valued))
+        ap (λ (x : List Record). linesText (recordLines x)) (ap₂ wholeRecords as-many t ∙ records-back rs _ whole)
         in
         let first = line (firstLine (m .counts)) in
         record {

@@ -6,12 +6,12 @@ use lib.ListN.{length, length-append}
 use Rattle.octets.proofs.Layouts.{fit-at}
 use Rattle.record.specs.Record.{Record, recordLayout}
 use Rattle.rfc6733.specs.Decoder.{Counts}
-use Rattle.record.specs.Table.{bare}
+use Rattle.record.specs.Table.{bare, Every}
 use Rattle.refusal.specs.Answer.{Refusal}
 use Rattle.refusal.specs.Refusals.{numberOf, amountOf}
 use Rattle.rfc6733.specs.Dump.{recordLine, recordLines, firstLine, line, linesText, refusalText}
 use Rattle.round_trip.specs.Tables.{Fits, AllFit}
-use Rattle.round_trip.proofs.Whole.{Valued, AllValued}
+use Rattle.round_trip.proofs.Whole.{Valued}
 use Rattle.lines.proofs.Decimals.{decimal-short, decimal-most}
 
 record-short : (r : Record) → Fits r → Valued r → length (line (recordLine r)) ≤ 64
@@ -26,7 +26,7 @@ record-short r f v =
     let size = decimal-short 7 (r .length) (omega (arith, fits 2)) in
     simp length-append (omega (arith, decimal-most (r .value)))
 
-pub records-short : (rs : List Record) → AllFit rs → AllValued rs → length (linesText (recordLines rs)) ≤ length rs * 64
+pub records-short : (rs : List Record) → AllFit rs → Every Valued rs → length (linesText (recordLines rs)) ≤ length rs * 64
 records-short [] f v = omega arith
 records-short (r ∷ rs) f v =
     rw (length-append (line (recordLine r))) (omega (arith, record-short r (f .0) (v .0), records-short rs (f .1) (v .1)))

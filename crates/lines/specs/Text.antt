@@ -1,17 +1,13 @@
 -- What the functions that put text ask for, and what they leave.
-use Prim.Native.Nat.{ℕ, zero, suc, _*_, _≤_}
-use mathlib.Core.List.{List, [], _∷_, _++_}
-use lib.ListN.{length, drop}
-use Rattle.record.specs.Record.{Record, recordSize, recordAt}
+use Prim.Native.Nat.{ℕ, _*_, _≤_}
+use mathlib.Core.List.{List, _++_}
+use lib.ListN.{length}
+use Rattle.record.specs.Record.{recordSize}
+use Rattle.record.specs.Table.{wholeRecords}
 use Rattle.rfc6733.specs.Decoder.{Counts}
 use Rattle.rfc6733.specs.Dump.{recordLines, firstLine, line, linesText}
 
--- the first n records of a table, whole
-abbrev pub wholeRecords : ℕ → List ℕ → List Record
-wholeRecords zero s = []
-wholeRecords (suc n) s = recordAt s ∷ wholeRecords n (drop recordSize s)
-
--- their lines, and those of a message with its own first
+-- the lines of the first n records of a table, and those of a message with its own first
 abbrev pub recordsText : ℕ → List ℕ → List ℕ
 recordsText n s = linesText (recordLines (wholeRecords n s))
 

@@ -10,3 +10,4 @@ pub mod Editions
 pub mod UnitValues
 pub mod Utf8
 pub mod Times
+pub mod Broken

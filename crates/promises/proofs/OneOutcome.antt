@@ -23,6 +23,7 @@ use Rattle.octets.proofs.to_be_u24.Reads as to-be-u24
 use Rattle.octets.proofs.to_be_u32.Reads as to-be-u32
 use Rattle.octets.proofs.to_be_u64.Reads as to-be-u64
 use Rattle.octets.proofs.at_hand.length.Reads as length
+use Rattle.rfc3629.proofs.check.Reads as check
 use Rattle.rfc3629.proofs.is_utf8.Reads as is-utf8
 use Rattle.refusal.proofs.Refusal.number.Reads as number
 use Rattle.refusal.proofs.Refusal.amount.Reads as amount
@@ -74,6 +75,7 @@ use Rattle.count.proofs.count_run.Reads as count-run
 use Rattle.rules.proofs.header_size.Reads as record-header-size
 use Rattle.rules.proofs.keepers.Reads as keepers
 use Rattle.tandrekily.proofs.tandrekily_is_utf8.Reads as tandrekily-is-utf8
+use Rattle.tandrekily.proofs.tandrekily_utf8.Reads as tandrekily-utf8
 use Rattle.tandrekily.proofs.tandrekily_unix_seconds.Reads as tandrekily-unix-seconds
 use Rattle.tandrekily.proofs.tandrekily_integer32.Reads as tandrekily-integer32
 use Rattle.tandrekily.proofs.tandrekily_integer64.Reads as tandrekily-integer64
@@ -128,6 +130,9 @@ length-one : Single length.Post
 length-one κs a r r′ s p q = p ∙ sym q
 
 -- ---- rfc3629
+
+check-one : Single check.Post
+check-one κs a r r′ s p q = p ∙ sym q
 
 is-utf8-one : Single is-utf8.Post
 is-utf8-one κs a r r′ s p q = p ∙ sym q
@@ -412,6 +417,9 @@ tandrekily-write-one κs flags code appId hopId endId table pool out result _ _ 
 
 tandrekily-is-utf8-one : Single tandrekily-is-utf8.Post
 tandrekily-is-utf8-one κs a r r′ s p q = p ∙ sym q
+
+tandrekily-utf8-one : Single tandrekily-utf8.Post
+tandrekily-utf8-one κs a r r′ s p q = p ∙ sym q
 
 tandrekily-unix-seconds-one : Single tandrekily-unix-seconds.Post
 tandrekily-unix-seconds-one κs a r r′ s p q = p ∙ sym q

@@ -1,5 +1,5 @@
--- The ways to decode a message: `diameter::parse` in a reading, and `diameter::parse_by` with an edition. A call of either answers as the
--- definition decodes by its dictionary, so what the demands say of one they say of both.
+-- The ways to decode a message: `diameter::parse` in a reading, and `diameter::parse_by` with an edition; and in the same ways one AVP alone. A call of
+-- either answers as the definition decodes by its dictionary, so what the demands say of one they say of both.
 use Prim.Native.Nat.{ℕ}
 use mathlib.Core.Path.{_≡_, sym, _∙_}
 use mathlib.Core.Bool.{true, false}
@@ -9,11 +9,14 @@ use denote.Ref.{now}
 use Rattle.refusal.specs.Answer.{Refusal}
 use Rattle.refusal.proofs.Answers.{among}
 use Rattle.record.specs.Store.{room}
-use Rattle.rfc6733.specs.Dictionary.{Dictionary}
-use Rattle.rfc6733.specs.CreditControl.{isEdition, editionOf}
-use Rattle.rfc6733.specs.Decoder.{limitRefusals, decoded}
+use Rattle.rfc6733.specs.Dictionary.{Dictionary, rfc, sawp}
+use Rattle.rfc6733.specs.CreditControl.{rfc4006, rfc8506, isEdition, editionOf}
+use Rattle.rfc6733.specs.Decoder.{limitRefusals, decoded, avpAlone}
 use Rattle.rfc6733.specs.Editions.{editionRefusals}
-use Rattle.rfc6733.proofs.Editions.{message-by, accepted-by, refused-by}
+use Rattle.rfc6733.proofs.CreditControl.{each-edition}
+use Rattle.rfc6733.proofs.RunErrors.{Small, bare-small, family-small}
+use Rattle.rfc6733.proofs.Breaks.{Silent, bare-silent, family-silent}
+use Rattle.rfc6733.proofs.Editions.{message-by, accepted-by, refused-by, alone-by, alone-accepted-by}
 use Rattle.round_trip.specs.Trip.{Lawful}
 use Rattle.round_trip.proofs.LeafKinds.{sawp-lawful, rfc-lawful, edition-lawful}
 use Rattle.attribute.specs.declared.Reading.{Reading}
@@ -22,8 +25,12 @@ use Rattle.attribute.specs.Attributes.{dictionary}
 use Rattle.diameter.specs.declared.Message.{Message}
 use Rattle.diameter.specs.declared.Decoded.{Decoded}
 use Rattle.diameter.specs.declared.Decoded.the-variants.{Accepted, Refused}
-use Rattle.diameter.specs.Answers.{answerOf, messageAs, storeAfter}
-use Rattle.promises.proofs.OneOutcome.Calls.{Slice, Parse, ParseBy}
+use Rattle.avps.specs.declared.Counts.{Counts}
+use Rattle.avps.specs.declared.Filled.{Filled}
+use Rattle.avps.specs.declared.Filled.the-variants as filled
+use Rattle.avps.specs.Answers as avps
+use Rattle.diameter.specs.Answers.{answerOf, messageAs, storeAfter, storeAfterAvp}
+use Rattle.promises.proofs.OneOutcome.Calls.{Slice, Parse, ParseAvp, ParseBy, ParseAvpBy}
 
 pub data Way : Type 0 where
   reading : Reading → Way
@@ -70,8 +77,42 @@ refuses (reading r) κs limit input store why store′ later p = decodes (readin
 refuses (edition n) κs limit input store why store′ later p =
     decodes (edition n) κs limit input store (Refused why) store′ (refused-by n limit _ (now input) why (later n) (sym (p .0))) p
 
+-- ---- one AVP alone
+
+abbrev pub DecodeAlone : Way → Lfts 2 → ℕ → Slice → Slice → Filled → Slice → Type 0
+DecodeAlone (reading r) κs limit input store d store′ = ParseAvp κs r limit input store d store′
+DecodeAlone (edition n) κs limit input store d store′ = ParseAvpBy κs n limit input store d store′
+
+pub record DecodesAlone (D : Dictionary) (limit : ℕ) (input store : List ℕ) (d : Filled) (store′ : List ℕ) : Type 0 where
+  pub answer-is : avps.answerOf d ≡ avpAlone D limit (room store) input
+  pub store-is : store′ ≡ storeAfterAvp D input store d
+
+pub accepts-alone : (way : Way) (κs : Lfts 2) (limit : ℕ) (input store : Slice) (c : Counts) (store′ : Slice)
+    → DecodeAlone way κs limit input store (filled.Accepted c) store′
+    → DecodesAlone (dictionaryOf way) limit (now input) (now store) (filled.Accepted c) (now store′)
+unfolding avps.answerOf
+accepts-alone (reading r) κs limit input store c store′ p = record { answer-is = p .0; store-is = p .1 }
+accepts-alone (edition n) κs limit input store c store′ p =
+    let known = alone-accepted-by n limit _ (now input) (avps.countsAs c) (sym (p .0)) in
+    record { answer-is = p .0 ∙ sym (alone-by n limit _ (now input) known); store-is = p .1 }
+
+-- ---- the dictionaries
+
 pub lawful : (way : Way) → Lawful (dictionaryOf way)
 unfolding dictionary
 lawful (reading Sawp) = sawp-lawful
 lawful (reading Rfc) = rfc-lawful
 lawful (edition n) = edition-lawful n
+
+-- an Address that is read is a number of eight bytes at most, and one that is not has none
+pub address-small : (way : Way) (s : List ℕ) → Small s (dictionaryOf way .asAddress s)
+unfolding dictionary sawp rfc rfc4006 rfc8506
+address-small (reading Sawp) = bare-small
+address-small (reading Rfc) = family-small
+address-small (edition n) = each-edition (λ D. (s : List ℕ) → Small s (D .asAddress s)) family-small family-small family-small n
+
+pub address-silent : (way : Way) (s : List ℕ) → Silent (dictionaryOf way .asAddress s)
+unfolding dictionary sawp rfc rfc4006 rfc8506
+address-silent (reading Sawp) = bare-silent
+address-silent (reading Rfc) = family-silent
+address-silent (edition n) = each-edition (λ D. (s : List ℕ) → Silent (D .asAddress s)) family-silent family-silent family-silent n

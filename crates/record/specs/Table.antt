@@ -1,4 +1,4 @@
--- A table of records as the writers take it.
+-- A table of records: as the writers take it, and whole.
 use Prim.Native.Nat.{ℕ, zero, suc, _/_}
 use mathlib.Core.Bool.{cond}
 use mathlib.Core.List.{List, [], _∷_}
@@ -38,6 +38,16 @@ recordsIn (suc n) s = entryAt s ∷ recordsIn n (drop recordSize s)
 
 unfoldable pub tableOf : List ℕ → List Record
 tableOf s = recordsIn (length s / recordSize) s
+
+-- the first n, whole
+abbrev pub wholeRecords : ℕ → List ℕ → List Record
+wholeRecords zero s = []
+wholeRecords (suc n) s = recordAt s ∷ wholeRecords n (drop recordSize s)
+
+-- P holds of every record
+abbrev pub Every : (Record → Type 0) → List Record → Type 0
+Every P [] = Unit {0}
+Every P (r ∷ rs) = P r × Every P rs
 
 -- those of one depth
 abbrev pub ofDepth : ℕ → List Record → List Record

@@ -1,8 +1,7 @@
--- A text, read character by character. A character's size depends on its own bytes alone, so a text goes on behind it as a text of its
--- own; and bytes of ASCII are characters, as many as they are.
+-- A text, read character by character. Behind a character a text goes on as a text of its own, so the reading from the front is as far as it has
+-- come and as far as what is left goes; and bytes of ASCII are characters, as many as they are.
 use Prim.Native.Nat.{ℕ, zero, suc, _+_, _≤_, _<_}
-use mathlib.Core.Path.{_≡_, refl, sym, ap, _∙_}
-use mathlib.Core.Bool.{true, false, not}
+use mathlib.Core.Path.{_≡_, refl, sym, ap}
 use mathlib.Core.Logic.{inl, inr}
 use mathlib.Core.List.{List, [], _∷_}
 use mathlib.Mathlib.Data.Bool.Basic.{dichotomy}
@@ -11,39 +10,41 @@ use native.Mathlib.Omega.{arith}
 use lib.ListN.{length, drop, length-drop, drop-of-length-le}
 use lib.Seq.{drop-drop}
 use borrow.Author.Tests.{eq-eqb, ne-eqb}
-use Rattle.octets.specs.Run.{tiles, after}
-use Rattle.octets.proofs.Runs.{tree-none, tree-broken, tree-plain}
-use Rattle.rfc3629.specs.Utf8.{charSize, characters, wellFormed}
+use Rattle.rfc3629.specs.Utf8.{charSize, validUpTo}
+use Rattle.rfc3629.specs.Checked.{checked}
+use Rattle.rfc3629.specs.declared.Utf8.the-variants.{WellFormed, ValidUpTo}
 use Rattle.rfc3629.specs.Ascii.{asciiRun}
-use Rattle.rfc3629.proofs.Grammar.{char-there, sound}
+use Rattle.rfc3629.proofs.Grammar.{char-there}
+use Rattle.rfc3629.proofs.Prefixes.{up-to-none, up-to-broken, up-to-step, all-of-it}
 use Rattle.rfc3629.proofs.Runs.{isAscii, run-behind}
 use Rattle.rfc3629.proofs.Lines.{size-is}
 
--- whole characters were passed up to `at`: what is left is well-formed exactly where the whole text is
+-- whole characters were passed up to `at`: the text is valid that far, and as far again as what is left is
 pub record Passed (s : List ℕ) (at : ℕ) : Type 0 where
   pub within : at ≤ length s
-  pub same : wellFormed (drop at s) ≡ wellFormed s
+  pub so-far : validUpTo s ≡ at + validUpTo (drop at s)
 
 module _ {s : List ℕ} {at : ℕ} (p : Passed s at) where
   -- nothing is left
-  pub ended : length s ≤ at → true ≡ wellFormed s
-  unfolding wellFormed
-  ended h = rw (drop-of-length-le s h, tree-none characters) at (p .same)
+  pub ended : length s ≤ at → WellFormed ≡ checked s
+  ended h =
+      let all = rw (drop-of-length-le s h, up-to-none) at (p .so-far) in
+      rw (all-of-it s, eq-eqb (validUpTo s) (length s) (omega (arith, p .within)))
 
   -- a byte is left, and no character is at the front
-  pub stuck : at < length s → 0 ≡ charSize (drop at s) → false ≡ wellFormed s
-  unfolding wellFormed
+  pub stuck : at < length s → 0 ≡ charSize (drop at s) → ValidUpTo at ≡ checked s
   stuck l e =
-      let none = ap not (eq-eqb _ 0 (sym e)) in
-      rw (tree-broken characters sound (drop at s) (omega (arith, length-drop at s)) none) at (p .same)
+      let here = rw (up-to-broken (drop at s) (omega (arith, length-drop at s)) (sym e)) at (p .so-far) in
+      rw (all-of-it s, ne-eqb (validUpTo s) (length s) (λ z. omega arith)) (ap ValidUpTo (omega arith))
 
   -- a character of n bytes is at the front
   pub step : (n : ℕ) → n ≡ charSize (drop at s) → 0 < n → Passed s (at + n)
-  unfolding wellFormed after
   step n e h =
-      let whole = ap not (ne-eqb (charSize (drop at s)) 0 (λ z. omega arith)) in
-      let more = ap tiles (tree-plain characters sound (drop at s) whole refl) in
-      record { within = omega (arith, char-there (drop at s), length-drop at s); same = rw (← drop-drop n at s, e) (sym more ∙ p .same) }
+      let more = up-to-step (drop at s) (omega arith) in
+      record {
+        within = omega (arith, char-there (drop at s), length-drop at s);
+        so-far = rw (← drop-drop n at s, e) (omega (arith, p .so-far));
+      }
 
 -- ---- ASCII
 

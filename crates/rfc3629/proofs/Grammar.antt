@@ -109,13 +109,13 @@ pub character-found : (s : List ℕ) → 0 < charSize s → OneOf UTF8-char (tak
 unfolding charSize
 character-found = found UTF8-char
 
-a-size : (c u : List ℕ) → OneOf UTF8-char c → 0 < charSize (c ++ u)
+pub a-size : (c u : List ℕ) → OneOf UTF8-char c → 0 < charSize (c ++ u)
 unfolding charSize
 a-size c u = finds UTF8-char c u refl
 
 -- ---- a text
 
-has-byte : (s : List ℕ) → not (eqb (charSize s) 0) ≡ true → 0 < charSize s
+pub has-byte : (s : List ℕ) → not (eqb (charSize s) 0) ≡ true → 0 < charSize s
 has-byte s e = let h = eqb-false (charSize s) 0 (not-true (eqb (charSize s) 0) e) in omega arith
 
 pub char-there : (s : List ℕ) → charSize s ≤ length s

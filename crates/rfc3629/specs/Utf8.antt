@@ -1,10 +1,11 @@
--- Well-formed UTF-8, read from the front. Syntax is what to believe; that this says the same is proved (proofs/Grammar: `well-formed-is`).
+-- Well-formed UTF-8, read from the front. Syntax and Prefix are what to believe; that this says the same is proved (proofs/Grammar:
+-- `well-formed-is`, proofs/Prefixes: `longest`).
 use Prim.Native.Nat.{ℕ}
 use mathlib.Core.Bool.{Bool, true, false, cond, not, _&&_, _||_}
 use mathlib.Core.List.{List, [], _∷_}
 use lib.ListN.{length}
 use lib.Dec.{leb, eqb}
-use Rattle.octets.specs.Run.{Format, tree, tiles}
+use Rattle.octets.specs.Run.{Format, tree, tiles, covered}
 use Rattle.rfc3629.specs.Abnf.{Range}
 use Rattle.rfc3629.specs.Syntax.{UTF8-char}
 
@@ -43,3 +44,7 @@ characters =
 
 unfoldable pub wellFormed : List ℕ → Bool
 wellFormed s = tiles (tree characters s)
+
+-- how many bytes the characters at the front take, as far as they go
+unfoldable pub validUpTo : List ℕ → ℕ
+validUpTo s = length (covered (tree characters s))

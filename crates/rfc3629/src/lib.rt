@@ -1,27 +1,44 @@
-// Is a text well-formed UTF-8? The byte ranges of RFC 3629, section 4, decide, and syntax.rt has them; here a text is read by them from
-// the front, and ascii.rt is for speed. This crate knows nothing of Diameter.
+// Is a text well-formed UTF-8, and if not, up to where? The byte ranges of RFC 3629, section 4, decide, and syntax.rt has them; here a text
+// is read by them from the front, and ascii.rt is for speed. This crate knows nothing of Diameter.
 mod ascii;
 mod syntax;
 
 ghost use mathlib.Core.Path.{_≡_};
 ghost use Rattle.rfc3629.specs.Utf8.{charSize, wellFormed};
+ghost use Rattle.rfc3629.specs.Checked.{checked};
+
+/// What the check says of a text.
+pub enum Utf8 {
+    WellFormed,
+    /// The length in bytes of the longest prefix that is well-formed.
+    ValidUpTo(usize),
+}
 
 // UTF8-octets = *( UTF8-char )
-pub fn is_utf8(s: &[u8]) -> bool
-    ensures { λ r. ⌜ r ≡ wellFormed (now (s .entry)) ⌝ }
+pub fn check(s: &[u8]) -> Utf8
+    ensures { λ r. ⌜ r ≡ checked (now (s .entry)) ⌝ }
 {
     let mut at: usize = 0;
     loop {
         // for speed: without this line the answer is the same
         at += ascii::run(&s[at..]);
         if at == s.len() {
-            return true;
+            return Utf8::WellFormed;
         }
         let size = char_size(&s[at..]);
         if size == 0 {
-            return false;
+            return Utf8::ValidUpTo(at);
         }
         at += size;
+    }
+}
+
+pub fn is_utf8(s: &[u8]) -> bool
+    ensures { λ r. ⌜ r ≡ wellFormed (now (s .entry)) ⌝ }
+{
+    match check(s) {
+        Utf8::WellFormed => true,
+        Utf8::ValidUpTo(_) => false,
     }
 }
 

@@ -40,6 +40,10 @@ exact-tree D a e =
     in
     tree-step (avps D) (sound (avps D .nested)) a (omega arith) ∙ rw (own, rest, e .whole)
 
+pub exact-tiles : (D : Dictionary) (a : List ℕ) → Exact a → tiles (tree (avps D) a) ≡ true
+unfolding alone
+exact-tiles D a e = rw (exact-tree D a e) (elim (decide (avps D .nested a)) [ inl f ↦ rw f | inr f ↦ rw f ])
+
 -- the first AVP of a run is exact
 pub item-exact : (D : Dictionary) (s : List ℕ) → complete s ≡ true → Exact (item (avps D) s)
 item-exact D s e =

@@ -12,7 +12,7 @@ use Rattle.refusal.proofs.Tests.{decide}
 use Rattle.rfc6733.specs.Header.{headerRefusals}
 use Rattle.rfc6733.specs.Avp.{avpRefusals}
 use Rattle.rfc6733.specs.CreditControl.{isEdition, editionOf}
-use Rattle.rfc6733.specs.Decoder.{Message, allowed, limitRefusals, bytesRefusals, messageRefusals, messageOf, decoded, aloneBytesRefusals, aloneRefusals, aloneOf, avpAlone}
+use Rattle.rfc6733.specs.Decoder.{Counts, Message, allowed, limitRefusals, bytesRefusals, messageRefusals, messageOf, decoded, aloneBytesRefusals, aloneRefusals, aloneOf, avpAlone}
 use Rattle.rfc6733.specs.Editions.{editionRefusals, decodedBy, avpAloneBy}
 
 -- ---- the test of the edition, whatever is refused after it
@@ -87,6 +87,11 @@ module _ (n limit room : ℕ) (s : List ℕ) where
   pub alone-by-none : isEdition n ≡ false → refused (cond (allowed limit) BadEdition BadDepth) ≡ avpAloneBy n limit room s
   unfolding avpAloneBy
   alone-by-none = unknown n limit alone-rest (aloneOf (editionOf n) s)
+
+  -- only an edition accepts
+  pub alone-accepted-by : (c : Counts) → avpAloneBy n limit room s ≡ accepted c → isEdition n ≡ true
+  unfolding avpAloneBy
+  alone-accepted-by = only-known n limit alone-rest (aloneOf (editionOf n) s)
 
   pub alone-bad-edition : avpAloneBy n limit room s ≡ refused BadEdition → (allowed limit ≡ true) × (isEdition n ≡ false)
   unfolding avpAloneBy avpRefusals

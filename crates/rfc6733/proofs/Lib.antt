@@ -19,3 +19,4 @@ pub mod Demand3
 pub mod MarkedMessages
 pub mod KindsRead
 pub mod Times
+pub mod Breaks

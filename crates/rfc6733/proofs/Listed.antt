@@ -7,7 +7,8 @@ use mathlib.Core.List.{List, [], _∷_, _++_}
 use mathlib.Core.Logic.{inl, inr}
 use types.Run.{OneOf}
 use lib.Dec.{eqb}
-use borrow.Author.Tests.{eq-eqb, ne-eqb}
+use borrow.Author.Tests.{eqb-true, eq-eqb, ne-eqb}
+use Rattle.refusal.proofs.Tests.{decide}
 use Rattle.octets.proofs.Runs.{false-true}
 use Rattle.rfc6733.specs.Value.{oneOf}
 
@@ -21,6 +22,17 @@ pub none-of : (ks : List ℕ) (k : ℕ) → (OneOf ks k → ⊥) → oneOf k ks 
 none-of [] k h = refl
 none-of (x ∷ []) k h = rw (ne-eqb k x h)
 none-of (x ∷ y ∷ ks) k h = rw (ne-eqb k x (λ e. h (inl e))) (none-of (y ∷ ks) k (λ o. h (inr o)))
+
+-- P holds of each number of a list,
+abbrev pub Each : (ℕ → Type 0) → List ℕ → Type 0
+Each P [] = Unit {0}
+Each P (x ∷ xs) = P x × Each P xs
+
+-- and so of any one of them
+pub of-listed : (P : ℕ → Type 0) (ks : List ℕ) → Each P ks → (k : ℕ) → oneOf k ks ≡ true → P k
+of-listed P [] all k h = absurd (false-true h)
+of-listed P (x ∷ ks) all k h =
+    elim (decide (eqb k x)) [ inl e ↦ rw (eqb-true k x e) (all .0) | inr e ↦ of-listed P ks (all .1) k (rw e at h) ]
 
 pub one-of-append : (k : ℕ) (xs ys : List ℕ) → oneOf k (xs ++ ys) ≡ oneOf k xs || oneOf k ys
 one-of-append k [] ys = refl

@@ -1,5 +1,5 @@
 -- A run's error flags are below 16 in both readings and both editions: each flag is, and joining keeps it so. And what is read of bytes is a number
--- of eight bytes at most. For any dictionary this asks only that it is so of an Address.
+-- of eight bytes at most, if their count is. For any dictionary this asks only that it is so of an Address.
 use Prim.Native.Nat.{ℕ, _^_, _≤_, _<_}
 use mathlib.Core.Bool.{Bool, true, false, cond, not}
 use mathlib.Core.Logic.{inl, inr}
@@ -7,9 +7,12 @@ use mathlib.Core.List.{List}
 use native.Mathlib.Nat.{pow-le-pow-right, zero-lt-suc}
 use native.Mathlib.Omega.{arith}
 use lib.Dec.{eqb}
+use lib.ListN.{length}
 use Rattle.octets.specs.Octets.{be, Bytes}
 use Rattle.octets.specs.Run.{Tree, done, broken, plain, group, tiles}
 use Rattle.octets.proofs.Numbers.{be-small}
+use Rattle.rfc3629.specs.Utf8.{validUpTo}
+use Rattle.rfc3629.proofs.Prefixes.{longest}
 use Rattle.flags.specs.Flags.{dataValue, dataLength, flag}
 use Rattle.rfc6733.specs.Avp.{flags, avpReserved, payload, pads}
 use Rattle.rfc6733.specs.Value.{Value, value, fixed, text, dataAs}
@@ -21,10 +24,10 @@ use Rattle.rfc6733.proofs.CreditControl.{each-edition}
 use Rattle.refusal.proofs.Tests.{decide}
 use Rattle.flags.proofs.Joins.{join-small, flag-small}
 
--- a value that was read of s: its flags are below 16, and its number fits eight bytes
+-- a value that was read of s: its flags are below 16, and its number fits eight bytes, if s is bytes and as many as fit
 pub record Small (s : List ℕ) (v : Value) : Type 0 where
   pub below : v .errors < 16
-  pub fits : Bytes s → v .number < 256 ^ 8
+  pub fits : Bytes s → length s < 256 ^ 8 → v .number < 256 ^ 8
 
 either : {s : List ℕ} {v w : Value} (b : Bool) → Small s v → Small s w → Small s (cond b v w)
 either true hv hw = hv
@@ -43,18 +46,18 @@ no-number s k = omega arith
 wrong-length : (s : List ℕ) → Small s (value unhandled dataLength 0)
 wrong-length s = omega arith
 
-wrong-value : (s : List ℕ) → Small s (value unhandled dataValue 0)
-wrong-value s = omega arith
+broken-text : (s : List ℕ) → Small s (value unhandled dataValue (validUpTo s))
+broken-text s = record { below = omega arith; fits = λ bytes few. omega (arith, longest s .is-prefix) }
 
 four-bytes : (s : List ℕ) (k i : ℕ) → Small s (value k 0 (be 4 s i))
-four-bytes s k i = record { below = omega arith; fits = λ b. let l = be-small 4 s i b in omega arith }
+four-bytes s k i = record { below = omega arith; fits = λ bytes few. let l = be-small 4 s i bytes in omega arith }
 
 flagged : (s : List ℕ) (w k : ℕ) → w ≤ 8 → (b : Bool) → Small s (value k (flag b dataLength) (be w s 0))
 flagged s w k le b =
     let most = pow-le-pow-right {n = 256} (zero-lt-suc 255) le in
-    record { below = flag-small b dataLength (omega arith); fits = λ z. let l = be-small w s 0 z in omega arith }
+    record { below = flag-small b dataLength (omega arith); fits = λ bytes few. let l = be-small w s 0 bytes in omega arith }
 
-ruleset ways = (either, no-number, wrong-length, wrong-value, four-bytes)
+ruleset ways = (either, no-number, wrong-length, broken-text, four-bytes)
 
 read-small : (asAddress : List ℕ → Value) (k : ℕ) (s : List ℕ) → Small s (asAddress s) → Small s (dataAs asAddress k s)
 unfolding dataAs fixed text
@@ -64,7 +67,7 @@ pub bare-small : (s : List ℕ) → Small s (bareAddress s)
 unfolding bareAddress
 bare-small s = search ways depth 9
 
-family-small : (s : List ℕ) → Small s (familyAddress s)
+pub family-small : (s : List ℕ) → Small s (familyAddress s)
 unfolding familyAddress
 family-small s = search ways depth 9
 

@@ -10,6 +10,7 @@ pub mod Decoder
 pub mod Editions
 pub mod Search
 pub mod Writer
+pub mod Broken
 pub mod Dump
 pub mod Marked
 pub mod Extremal

@@ -5,7 +5,7 @@ use mathlib.Core.List.{List, [], _∷_}
 use lib.ListN.{length}
 use lib.Dec.{ltb, eqb}
 use Rattle.octets.specs.Octets.{be}
-use Rattle.rfc3629.specs.Utf8.{wellFormed}
+use Rattle.rfc3629.specs.Utf8.{wellFormed, validUpTo}
 use Rattle.flags.specs.Flags.{dataValue, dataLength, flag}
 use Rattle.record.specs.Kinds.{unhandled, integer32, integer64, unsigned32, unsigned64, float32, float64, enumerated, utf8String, diameterIdentity, diameterURI, address, time}
 
@@ -24,9 +24,20 @@ fixed w k s =
     cond (ltb (length s) w) (value unhandled dataLength 0)
     (value k (flag (ltb w (length s)) dataLength) (be w s 0))
 
--- text. Departures D1 and D2: RFC 3629 decides, and nothing more is asked of an identity or a URI
+-- text. Departures D1 and D2: RFC 3629 decides, and nothing more is asked of an identity or a URI. Where it is ill-formed, the number is the
+-- length of its longest prefix that is not
 unfoldable pub text : ℕ → List ℕ → Value
-text k s = cond (wellFormed s) (value k 0 0) (value unhandled dataValue 0)
+text k s = cond (wellFormed s) (value k 0 0) (value unhandled dataValue (validUpTo s))
+
+-- the kinds that are numbers of 32 and of 64 bits, and those that are text
+abbrev pub kinds32 : List ℕ
+kinds32 = integer32 ∷ unsigned32 ∷ float32 ∷ enumerated ∷ time ∷ []
+
+abbrev pub kinds64 : List ℕ
+kinds64 = integer64 ∷ unsigned64 ∷ float64 ∷ []
+
+abbrev pub texts : List ℕ
+texts = utf8String ∷ diameterIdentity ∷ diameterURI ∷ []
 
 abbrev pub oneOf : ℕ → List ℕ → Bool
 oneOf k [] = false
@@ -35,8 +46,8 @@ oneOf k (x ∷ xs) = eqb k x || oneOf k xs
 -- data read as the kind k, which is not Grouped. How an Address is read is a parameter
 unfoldable pub dataAs : (List ℕ → Value) → ℕ → List ℕ → Value
 dataAs asAddress k s =
-    cond (oneOf k (integer32 ∷ unsigned32 ∷ float32 ∷ enumerated ∷ time ∷ [])) (fixed 4 k s)
-    (cond (oneOf k (integer64 ∷ unsigned64 ∷ float64 ∷ [])) (fixed 8 k s)
-    (cond (oneOf k (utf8String ∷ diameterIdentity ∷ diameterURI ∷ [])) (text k s)
+    cond (oneOf k kinds32) (fixed 4 k s)
+    (cond (oneOf k kinds64) (fixed 8 k s)
+    (cond (oneOf k texts) (text k s)
     (cond (eqb k address) (asAddress s)
     (value k 0 0))))

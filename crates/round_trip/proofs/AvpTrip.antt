@@ -21,11 +21,11 @@ use Rattle.record.specs.Table.{bare}
 use Rattle.rfc6733.proofs.Complete.{exact-sizes}
 use Rattle.refusal.proofs.Tests.{decide}
 use Rattle.rfc6733.proofs.Items.{payload-length}
-use Rattle.round_trip.specs.Tables.{AllFit}
+use Rattle.round_trip.specs.Tables.{Fits, AllFit}
 use Rattle.round_trip.specs.Trip.{Ungrouped}
 use Rattle.round_trip.proofs.Rules.{good-keeps}
 use Rattle.round_trip.proofs.Lengths.{long}
-use Rattle.round_trip.proofs.Tables.{both-fit}
+use Rattle.round_trip.proofs.Tables.{every-both}
 use Rattle.round_trip.proofs.Again.{own, avp-again, own-good, own-fits}
 use Rattle.round_trip.proofs.Shape.{Sound, sound-kept}
 use Rattle.round_trip.proofs.Packed.{Holds, holds-part, holds-fits, holds-data}
@@ -79,7 +79,7 @@ module _ (pool : List ℕ) (place depth : ℕ) (a : List ℕ) (exact : Exact a) 
         let g = own-good place depth a v exact bytes (length pool) low high kind all (λ e. member-words members (inside e)) in
         record {
           sound-is = Sound.more (good-keeps depth (length pool) (own place depth a v) g) refl outside (members-good .0) (r .sound-is);
-          fits = (own-fits place depth a v exact bytes within high kind, both-fit (flat members) (flat rest) (members-good .1) (r .fits));
+          fits = (own-fits place depth a v exact bytes within high kind, every-both Fits (flat members) (flat rest) (members-good .1) (r .fits));
           is = rw (avp-again place depth a v exact bytes _ body-again, r .is);
         }
 

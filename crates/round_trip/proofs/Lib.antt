@@ -10,8 +10,10 @@ pub mod Again
 pub mod LeafKinds
 pub mod AvpTrip
 pub mod RunTrip
+pub mod EveryRecord
 pub mod Written
 pub mod RoundTrip
 pub mod AvpBack
 pub mod ReadBack
 pub mod Whole
+pub mod Breaks

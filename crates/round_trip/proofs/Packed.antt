@@ -69,3 +69,6 @@ module _ (pool : List ℕ) (place : ℕ) where
 
   pub holds-data : (n : ℕ) (s : List ℕ) → length s ≡ n → Holds pool place s → take n (drop place pool) ≡ s
   holds-data n s e h = rw (h .is, take-at s (h .beyond) n e)
+
+  pub bytes-held : (s : List ℕ) → Bytes pool → Holds pool place s → Bytes s
+  bytes-held s b h = rw (holds-data (length s) s refl h) at (bytes-take (length s) (drop place pool) (bytes-drop place pool b))

@@ -25,11 +25,11 @@ use Rattle.record.proofs.Layouts.{laid-length}
 use Rattle.round_trip.specs.Tables.{AllFit}
 use Rattle.round_trip.specs.Trip.{fieldsOf, Lawful, forestOf}
 use Rattle.round_trip.proofs.Packed.{bytes-take, bytes-drop}
-use Rattle.round_trip.proofs.Tables.{fit-bare, laid-read}
+use Rattle.round_trip.proofs.Tables.{laid-read}
 use Rattle.round_trip.proofs.Shape.{sound-valid, sound-read}
 use Rattle.round_trip.proofs.Packed.{holds-here}
 use Rattle.round_trip.proofs.AvpTrip.{Trip}
-use Rattle.round_trip.proofs.RunTrip.{flat-records, trips}
+use Rattle.round_trip.proofs.RunTrip.{flat-records, records-fit-as, trips}
 use Rattle.round_trip.proofs.Written.{writable-written}
 
 -- ---- the header
@@ -73,7 +73,7 @@ module _ (D : Dictionary) (lawful : Lawful D) (limit room : ℕ) (s : List ℕ) 
 
   pub records-fit : AllFit (messageRecords D s)
   unfolding messageRecords runRecords
-  records-fit = fit-bare (messageRecords D s) (rw (flat-records D headerSize 1 (tree (avps D) (messageBody s))) (trip .fits))
+  records-fit = records-fit-as D headerSize 1 (messageBody s) (tree (avps D) (messageBody s)) trip
 
   -- the records in the table are those of the run
   table-is : tableOf (laid (messageRecords D s)) ≡ flat trees

@@ -21,9 +21,11 @@ use Rattle.rfc6733.proofs.Alone.{item-exact}
 use Rattle.rfc6733.proofs.Complete.{exact-sizes}
 use Rattle.rfc6733.proofs.Items.{sound, payload-length}
 use Rattle.refusal.proofs.Tests.{decide}
+use Rattle.round_trip.specs.Tables.{AllFit}
 use Rattle.round_trip.specs.Trip.{Ungrouped, Lawful, forestOf}
 use Rattle.round_trip.proofs.Packed.{bytes-item, bytes-payload, bytes-after, Holds, holds-front, holds-behind}
 use Rattle.round_trip.proofs.LeafKinds.{value-leaf}
+use Rattle.round_trip.proofs.Tables.{fit-bare}
 use Rattle.round_trip.proofs.Shape.{Sound}
 use Rattle.round_trip.proofs.Again.{own}
 use Rattle.round_trip.proofs.AvpTrip.{Trip, payload-held, trip-leaf, trip-group}
@@ -42,6 +44,11 @@ flat-records D place depth (group a inner rest) =
       | inl e ↦ rw (e, map-append bare members (records D (place + length a) depth rest), m, r)
       | inr e ↦ rw (e, r)
     ]
+
+-- so they fit a table where the forest does
+pub records-fit-as : {pool : List ℕ} (D : Dictionary) (place depth : ℕ) (s : List ℕ) (t : Tree) → Trip pool depth s (forestOf D place depth t)
+    → AllFit (records D place depth t)
+records-fit-as D place depth s t trip = fit-bare (records D place depth t) (rw (flat-records D place depth t) (trip .fits))
 
 -- ---- the round trip
 

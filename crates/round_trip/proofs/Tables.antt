@@ -11,7 +11,7 @@ use Rattle.octets.specs.Octets.{be, Field, field, pack, widths, Bytes, unpack}
 use Rattle.octets.proofs.Numbers.{read-field}
 use Rattle.octets.proofs.Layouts.{unpack-low, low-fit, unpack-fits, fit-at}
 use Rattle.record.specs.Record.{Record, recordSize, recordLayout, recordBytes, recordAt, laid}
-use Rattle.record.specs.Table.{bare, entryAt, recordsIn, tableOf}
+use Rattle.record.specs.Table.{bare, entryAt, recordsIn, tableOf, Every}
 use Rattle.record.proofs.Layouts.{record-length}
 use Rattle.round_trip.specs.Tables.{Fits, AllFit}
 use Rattle.round_trip.proofs.Packed.{bytes-drop}
@@ -67,11 +67,11 @@ unfolding bare
 fit-bare [] f = tt
 fit-bare (r ∷ rs) f = (f .0, fit-bare rs (f .1))
 
--- ---- parts of a table that fits
+-- ---- parts of a table
 
-pub both-fit : (rs ts : List Record) → AllFit rs → AllFit ts → AllFit (rs ++ ts)
-both-fit [] ts f g = g
-both-fit (r ∷ rs) ts f g = (f .0, both-fit rs ts (f .1) g)
+pub every-both : (P : Record → Type 0) (rs ts : List Record) → Every P rs → Every P ts → Every P (rs ++ ts)
+every-both P [] ts f g = g
+every-both P (r ∷ rs) ts f g = (f .0, every-both P rs ts (f .1) g)
 
 pub fit-after : (rs ts : List Record) → AllFit (rs ++ ts) → AllFit ts
 fit-after [] ts f = f

@@ -9,13 +9,14 @@ use header::Parsed;
 use reader::Found;
 use record::outline::Outline;
 use refusal::Refusal;
+use rfc3629::Utf8;
 use unit_value::Compared;
 use unit_value::Ordering;
 use unit_value::UnitValue;
 use writer::Fields;
 use writer::Written;
 ghost use mathlib.Core.Path.{_≡_};
-ghost use Rattle.rfc3629.specs.Utf8.{wellFormed};
+ghost use Rattle.rfc3629.specs.Utf8.{wellFormed, validUpTo};
 ghost use Rattle.rfc6733.specs.Decoder.{headerAlone};
 ghost use Rattle.rfc6733.specs.Search.{sought};
 ghost use Rattle.rfc6733.specs.Signed.{signed, unixSeconds};
@@ -316,6 +317,17 @@ pub extern "C" fn tandrekily_is_utf8(text: &[u8]) -> bool
     ensures { λ r. ⌜ r ≡ wellFormed (now (text .entry)) ⌝ }
 {
     rfc3629::is_utf8(text)
+}
+
+/// The length in bytes of the text's longest prefix that is well-formed UTF-8 (RFC 3629): its own length where it is well-formed.
+#[no_mangle]
+pub extern "C" fn tandrekily_utf8(text: &[u8]) -> usize
+    ensures { λ r. ⌜ r ≡ validUpTo (now (text .entry)) ⌝ }
+{
+    match rfc3629::check(text) {
+        Utf8::WellFormed => text.len(),
+        Utf8::ValidUpTo(n) => n,
+    }
 }
 
 /// A Time of the RFC reading in Unix seconds, from 1968-01-20 03:14:08 to 2104-02-26 09:42:23 UTC.

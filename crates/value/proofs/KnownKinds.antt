@@ -9,25 +9,16 @@ use native.Mathlib.Omega.{arith}
 use types.Run.{OneOf}
 use lib.Dec.{leb}
 use borrow.Author.Tests.{eqb-true, leb-true}
-use Rattle.rfc6733.specs.Value.{oneOf}
+use Rattle.rfc6733.specs.Value.{kinds32, kinds64, oneOf}
 use Rattle.record.specs.Kinds.{unhandled, time}
-use Rattle.rfc6733.proofs.Listed.{one-of-append, Unlisted, unlisted}
+use Rattle.rfc6733.proofs.Listed.{one-of, Each, of-listed, one-of-append, Unlisted, unlisted}
 use Rattle.attribute.specs.ByTable.{known}
-use Rattle.value.specs.Values.{kinds32, kinds64}
 
 -- ---- one of several numbers
 
--- P holds of each number of a list
-abbrev pub Each : (ℕ → Type 0) → List ℕ → Type 0
-Each P [] = Unit {0}
-Each P (x ∷ xs) = P x × Each P xs
-
--- and so of any one of them
+-- what holds of each number of a list holds of any one of them
 pub of-one : (P : ℕ → Type 0) (ks : List ℕ) → Each P ks → (k : ℕ) → OneOf ks k → P k
-of-one P [] all k h = absurd h
-of-one P (x ∷ []) all k h = rw h (all .0)
-of-one P (x ∷ y ∷ ks) all k (inl e) = rw e (all .0)
-of-one P (x ∷ y ∷ ks) all k (inr h) = of-one P (y ∷ ks) (all .1) k h
+of-one P ks all k h = of-listed P ks all k (one-of ks k h)
 
 -- ---- the number that is left
 

@@ -15,11 +15,11 @@ use Rattle.value.specs.Values.{kindOf, numberOf, readAs, addressOf, Show
 abbrev value-back : ℕ → ℕ → IpAddr → Value
 value-back k n a =
     getD (
-    Unhandled ∷ OctetString ∷ Integer32 n ∷ Integer64 n ∷ Unsigned32 n ∷ Unsigned64 n ∷ Float32 n ∷ Float64 n ∷ Grouped ∷ Enumerated n
-    ∷ UTF8String ∷ DiameterIdentity ∷ DiameterURI ∷ Address a ∷ Time n ∷ []) k Unhandled
+    Unhandled n ∷ OctetString ∷ Integer32 n ∷ Integer64 n ∷ Unsigned32 n ∷ Unsigned64 n ∷ Float32 n ∷ Float64 n ∷ Grouped ∷ Enumerated n
+    ∷ UTF8String ∷ DiameterIdentity ∷ DiameterURI ∷ Address a ∷ Time n ∷ []) k (Unhandled n)
 
 value-is-back : (v : Value) (a : IpAddr) → ((b : IpAddr) → v ≡ Address b → b ≡ a) → value-back (kindOf v) (numberOf v) a ≡ v
-value-is-back Unhandled a told = refl
+value-is-back (Unhandled n) a told = refl
 value-is-back OctetString a told = refl
 value-is-back (Integer32 n) a told = refl
 value-is-back (Integer64 n) a told = refl

@@ -10,17 +10,21 @@ use lib.Dec.{ltb, eqb}
 use borrow.Author.Tests.{lt-ltb, le-ltb, eqb-false}
 use Rattle.octets.specs.Octets.{be, Reads}
 use Rattle.octets.proofs.Numbers.{bytes, read-at}
+use Rattle.rfc3629.specs.Checked.{checked}
+use Rattle.rfc3629.specs.declared.Utf8.{Utf8}
+use Rattle.rfc3629.specs.declared.Utf8.the-variants.{WellFormed, ValidUpTo}
+use Rattle.rfc3629.proofs.Answers.{Says, says}
 use Rattle.flags.specs.Flags.{dataValue, dataLength, flag}
 use Rattle.rfc6733.specs.Value as rfc
-use Rattle.rfc6733.specs.Value.{value, fixed}
-use Rattle.record.specs.Kinds.{address, unhandled}
+use Rattle.rfc6733.specs.Value.{value, kinds32, kinds64, fixed, text}
+use Rattle.record.specs.Kinds.{address, grouped, unhandled}
 use Rattle.attribute.specs.ByTable.{known}
 use Rattle.value.specs.declared.Value.{Value}
-use Rattle.value.specs.declared.Value.the-variants.{Unhandled, Address}
+use Rattle.value.specs.declared.Value.the-variants.{Unhandled, Grouped, Address}
 use Rattle.value.specs.declared.IpAddr.{IpAddr}
 use Rattle.value.specs.declared.IpAddr.the-variants.{V4, V6}
 use Rattle.value.specs.declared.Read.{Read}
-use Rattle.value.specs.Values.{kindOf, addressNumber, numberOf, readAs, kinds32, kinds64, addressOf, Shows, newValue}
+use Rattle.value.specs.Values.{kindOf, addressNumber, numberOf, readAs, addressOf, textOf, textErrors, Shows, newValue}
 use Rattle.value.proofs.KnownKinds.{of-one}
 
 -- r was made of a value and its error flags
@@ -33,9 +37,9 @@ read-as r v e made = rw (made .0, made .1)
 
 -- ---- too few data for a number, and enough
 
-pub too-few : (w k : ℕ) (s : List ℕ) (r : Read) → length s < w → Made Unhandled dataLength r → readAs r ≡ fixed w k s
+pub too-few : (w k : ℕ) (s : List ℕ) (r : Read) → length s < w → Made (Unhandled 0) dataLength r → readAs r ≡ fixed w k s
 unfolding fixed
-too-few w k s r few made = rw (lt-ltb _ _ few) (read-as r Unhandled dataLength made)
+too-few w k s r few made = rw (lt-ltb _ _ few) (read-as r (Unhandled 0) dataLength made)
 
 pub enough : (w : ℕ) (s : List ℕ) (v : Value) (k n e : ℕ) → w ≤ length s → (kindOf v ≡ k) × (numberOf v ≡ n) → Reads w (bytes w s 0) n
     → e ≡ flag (ltb w (length s)) dataLength → readAs (record { value = v; errors = e }) ≡ fixed w k s
@@ -62,14 +66,23 @@ module _ (s : List ℕ) (r : Read) where
   a-number : (w k : ℕ) → eqb k address ≡ false → readAs r ≡ fixed w k s → Shows (fixed w k s) s r
   a-number w k other e = no-address (fixed w k s) e (fixed-kind w k s other)
 
-  pub is-unhandled : (e : ℕ) → Made Unhandled e r → Shows (value unhandled e 0) s r
-  is-unhandled e made = no-address (value unhandled e 0) (read-as r Unhandled e made) refl
+  pub is-unhandled : (e : ℕ) → Made (Unhandled 0) e r → Shows (value unhandled e 0) s r
+  is-unhandled e made = no-address (value unhandled e 0) (read-as r (Unhandled 0) e made) refl
 
-  -- a value without a number, where its data pass a test
-  pub by-test : (ok : Bool) (v : Value) → numberOf v ≡ 0 → eqb (kindOf v) address ≡ false → Made (cond ok v Unhandled) (cond ok 0 dataValue) r
-      → Shows (cond ok (value (kindOf v) 0 0) (value unhandled dataValue 0)) s r
-  by-test true v none other made = no-address (value (kindOf v) 0 0) (read-as r v 0 made ∙ ap (value (kindOf v) 0) none) other
-  by-test false v none other made = is-unhandled dataValue made
+  pub a-group : (ok : Bool) → Made (cond ok Grouped (Unhandled 0)) (cond ok 0 dataValue) r
+      → Shows (cond ok (value grouped 0 0) (value unhandled dataValue 0)) s r
+  a-group true made = no-address (value grouped 0 0) (read-as r Grouped 0 made) refl
+  a-group false made = is-unhandled dataValue made
+
+  -- a value without a number, where its data are text
+  pub a-text : (v : Value) → numberOf v ≡ 0 → eqb (kindOf v) address ≡ false → (c : Utf8) → c ≡ checked s → Made (textOf c v) (textErrors c) r
+      → Shows (text (kindOf v) s) s r
+  unfolding text
+  a-text v none other c e made = by c (says s c e) made
+    where
+      by : (c : Utf8) → Says s c → Made (textOf c v) (textErrors c) r → Shows (text (kindOf v) s) s r
+      by WellFormed t made = rw t (no-address (value (kindOf v) 0 0) (read-as r v 0 made ∙ ap (value (kindOf v) 0) none) other)
+      by (ValidUpTo n) t made = rw (t .ill-formed, t .up-to) (no-address (value unhandled dataValue n) (read-as r (Unhandled n) dataValue made) refl)
 
   an-address : (a : IpAddr) → Made (Address a) 0 r → a ≡ addressOf s (addressNumber a) → Shows (value address 0 (addressNumber a)) s r
   an-address a made told =

@@ -2,9 +2,11 @@
 use Prim.Native.Nat.{ℕ}
 use mathlib.Core.Path.{_≡_}
 use mathlib.Core.Bool.{cond}
-use mathlib.Core.List.{List, [], _∷_}
+use mathlib.Core.List.{List}
 use lib.ListN.{length}
 use lib.Dec.{ltb, eqb}
+use Rattle.rfc3629.specs.declared.Utf8.{Utf8}
+use Rattle.rfc3629.specs.declared.Utf8.the-variants.{WellFormed, ValidUpTo}
 use Rattle.flags.specs.Flags.{dataValue}
 use Rattle.record.specs.Kinds as kinds
 use Rattle.rfc6733.specs.Value as rfc
@@ -17,7 +19,7 @@ use Rattle.value.specs.declared.Read.{Read}
 
 -- the kind of a value
 abbrev pub kindOf : Value → ℕ
-kindOf Unhandled = kinds.unhandled
+kindOf (Unhandled n) = kinds.unhandled
 kindOf OctetString = kinds.octetString
 kindOf (Integer32 n) = kinds.integer32
 kindOf (Integer64 n) = kinds.integer64
@@ -40,7 +42,7 @@ addressNumber V6 = 0
 
 -- the number in a record's value field
 abbrev pub numberOf : Value → ℕ
-numberOf Unhandled = 0
+numberOf (Unhandled n) = n
 numberOf OctetString = 0
 numberOf (Integer32 n) = n
 numberOf (Integer64 n) = n
@@ -56,16 +58,18 @@ numberOf DiameterURI = 0
 numberOf (Address a) = addressNumber a
 numberOf (Time n) = n
 
+-- text as the check has it: the value v, or where it broke
+abbrev pub textOf : Utf8 → Value → Value
+textOf WellFormed v = v
+textOf (ValidUpTo n) v = Unhandled n
+
+abbrev pub textErrors : Utf8 → ℕ
+textErrors WellFormed = 0
+textErrors (ValidUpTo n) = dataValue
+
 -- what a value of the code shows
 unfoldable pub readAs : Read → rfc.Value
 readAs r = rfc.value (kindOf (r .value)) (r .errors) (numberOf (r .value))
-
--- the kinds of numbers of 32 and of 64 bits
-abbrev pub kinds32 : List ℕ
-kinds32 = kinds.integer32 ∷ kinds.unsigned32 ∷ kinds.float32 ∷ kinds.enumerated ∷ kinds.time ∷ []
-
-abbrev pub kinds64 : List ℕ
-kinds64 = kinds.integer64 ∷ kinds.unsigned64 ∷ kinds.float64 ∷ []
 
 -- an IPv6 address takes 16 bytes. Fewer hold an IPv4 address, whose number is n
 abbrev pub addressOf : List ℕ → ℕ → IpAddr

@@ -16,18 +16,20 @@ use record::kinds::UNHANDLED;
 use record::kinds::UNSIGNED32;
 use record::kinds::UNSIGNED64;
 use record::kinds::UTF8_STRING;
+use rfc3629::Utf8;
 ghost use mathlib.Core.Path.{_≡_};
 ghost use mathlib.Core.Bool.{true, cond};
 ghost use Rattle.rfc6733.specs.Dictionary.{bareAddress, familyAddress};
-ghost use Rattle.rfc6733.specs.Value.{oneOf, fixed};
+ghost use Rattle.rfc6733.specs.Value.{kinds32, kinds64, oneOf, fixed};
 ghost use Rattle.flags.specs.Flags.{dataValue};
 ghost use Rattle.attribute.specs.ByTable.{known, addressBy};
-ghost use Rattle.value.specs.Values.{kindOf, addressNumber, numberOf, readAs, kinds32, kinds64, Shows, newValue};
+ghost use Rattle.value.specs.Values.{kindOf, addressNumber, numberOf, textOf, textErrors, readAs, Shows, newValue};
 
 /// AVP Data Format as specified in RFC 6733, section 4.2. Data that are no number stay in the input;
 /// a number is held as its bits, whatever its sign or form.
 pub enum Value {
-    Unhandled,
+    /// Of ill-formed text, the length of its longest prefix that is well-formed; otherwise 0.
+    Unhandled(u64),
     OctetString,
     Integer32(u32),
     Integer64(u64),
@@ -87,22 +89,42 @@ impl Read {
     }
 
     fn unhandled(errors: u8) -> Read
-        ensures { λ r. ⌜ (r .value ≡ Value.Unhandled) × (r .errors ≡ errors) ⌝ }
+        ensures { λ r. ⌜ (r .value ≡ Value.Unhandled 0) × (r .errors ≡ errors) ⌝ }
     {
         Read {
-            value: Value::Unhandled,
+            value: Value::Unhandled(0),
             errors,
         }
     }
 
-    // A value whose data must pass a test. Data that don't pass are Unhandled.
-    fn tested(ok: bool, value: Value) -> Read
-        ensures { λ r. ⌜ (r .value ≡ cond ok value Value.Unhandled) × (r .errors ≡ cond ok 0 dataValue) ⌝ }
+    // A group, whose members must tile.
+    fn group(tiles: bool) -> Read
+        ensures { λ r. ⌜ (r .value ≡ cond tiles Value.Grouped (Value.Unhandled 0)) × (r .errors ≡ cond tiles 0 dataValue) ⌝ }
     {
-        if ok {
-            return Read::good(value);
+        if tiles {
+            return Read::good(Value::Grouped);
         }
         Read::unhandled(ErrorFlags::DataValue as u8)
+    }
+
+    // Text that is well-formed no further.
+    fn ill_formed(valid_up_to: usize) -> Read
+        ensures { λ r. ⌜ (r .value ≡ Value.Unhandled «valid_up_to») × (r .errors ≡ dataValue) ⌝ }
+    {
+        Read {
+            value: Value::Unhandled(valid_up_to as u64),
+            errors: ErrorFlags::DataValue as u8,
+        }
+    }
+
+    // A value that is text.
+    fn text(checked: Utf8, value: Value) -> Read
+        ensures { λ r. ⌜ (r .value ≡ textOf checked value) × (r .errors ≡ textErrors checked) ⌝ }
+    {
+        match checked {
+            Utf8::WellFormed => Read::good(value),
+            Utf8::ValidUpTo(n) => Read::ill_formed(n),
+        }
     }
 
     // A number of 32 bits. With surplus data it is kept; with too few the data are Unhandled.
@@ -227,10 +249,10 @@ impl Value {
             OCTET_STRING => Read::good(Value::OctetString),
             INTEGER32 | UNSIGNED32 | FLOAT32 | ENUMERATED | TIME => Read::fixed_32(kind, data),
             INTEGER64 | UNSIGNED64 | FLOAT64 => Read::fixed_64(kind, data),
-            GROUPED => Read::tested(front::tiles(data), Value::Grouped),
-            UTF8_STRING => Read::tested(rfc3629::is_utf8(data), Value::UTF8String),
-            DIAMETER_IDENTITY => Read::tested(rfc3629::is_utf8(data), Value::DiameterIdentity),
-            DIAMETER_URI => Read::tested(rfc3629::is_utf8(data), Value::DiameterURI),
+            GROUPED => Read::group(front::tiles(data)),
+            UTF8_STRING => Read::text(rfc3629::check(data), Value::UTF8String),
+            DIAMETER_IDENTITY => Read::text(rfc3629::check(data), Value::DiameterIdentity),
+            DIAMETER_URI => Read::text(rfc3629::check(data), Value::DiameterURI),
             ADDRESS => {
                 if families {
                     Read::family_address(data)
@@ -247,7 +269,7 @@ impl Value {
         ensures { λ r. ⌜ r ≡ kindOf self ⌝ }
     {
         match self {
-            Value::Unhandled => UNHANDLED,
+            Value::Unhandled(_) => UNHANDLED,
             Value::OctetString => OCTET_STRING,
             Value::Integer32(_) => INTEGER32,
             Value::Integer64(_) => INTEGER64,
@@ -270,7 +292,7 @@ impl Value {
         ensures { λ r. ⌜ r ≡ numberOf self ⌝ }
     {
         match self {
-            Value::Unhandled => 0,
+            Value::Unhandled(n) => n,
             Value::OctetString => 0,
             Value::Integer32(n) => n as u64,
             Value::Integer64(n) => n,

@@ -1,10 +1,11 @@
 // Texts at both ends of each range of RFC 3629, section 4, and one outside: each byte of a row in turn, while the others stand at their
-// lowest and then at their highest. oracle/witness.py makes the same texts from the RFC's own lines.
+// lowest and then at their highest; alone, and between letters. oracle/witness.py makes the same texts from the RFC's own lines.
 use crate::print;
 
 fn utf8(text: &[u8]) {
     print::label(b"utf8");
     print::bit(tandrekily::tandrekily_is_utf8(text));
+    print::number(tandrekily::tandrekily_utf8(text) as u64);
     print::bytes(text);
     print::end();
 }
@@ -19,10 +20,20 @@ fn front(text: [u8; 4], size: usize) {
     }
 }
 
+fn between_letters(text: [u8; 4], size: usize) {
+    match size {
+        1 => utf8(&[b'a', text[0], b'b']),
+        2 => utf8(&[b'a', text[0], text[1], b'b']),
+        3 => utf8(&[b'a', text[0], text[1], text[2], b'b']),
+        _ => utf8(&[b'a', text[0], text[1], text[2], text[3], b'b']),
+    }
+}
+
 fn with(mut text: [u8; 4], size: usize, at: usize, b: u8) {
     if at < 4 {
         text[at] = b;
         front(text, size);
+        between_letters(text, size);
     }
 }
 

@@ -162,6 +162,22 @@ fn is_grouped(code: &AttributeCode) -> bool {
     matches!(Value::new(code, &[]), Ok((_, (Value::Grouped(_), _))))
 }
 
+// A code is text if the Rust takes no data at all for an empty one.
+fn is_text(code: &AttributeCode) -> bool {
+    matches!(
+        Value::new(code, &[]),
+        Ok((_, (Value::UTF8String(_) | Value::DiameterIdentity(_) | Value::DiameterURI(_), _)))
+    )
+}
+
+// Where text broke; 0 for what is none. `String::from_utf8` is what the Rust itself asks.
+fn valid_up_to(code: &AttributeCode, data: &[u8]) -> u64 {
+    match String::from_utf8(data.to_vec()) {
+        Err(error) if is_text(code) => error.utf8_error().valid_up_to() as u64,
+        _ => 0,
+    }
+}
+
 fn head_size(avp: &AVP) -> usize {
     match avp.vendor_id {
         Some(_) => AVP::PRE_LENGTH_SIZE + 4,
@@ -188,7 +204,7 @@ fn put_records(avps: &[AVP], input: &[u8], start: usize, depth: u8, out: &mut Ve
         let (rest, (again, flags)) = AVP::parse(&input[at..at + size]).expect("read before");
         assert!(rest.is_empty() && again == *avp);
 
-        let (kind, value) = kind_and_value(&avp.value, data);
+        let (kind, value) = kind_and_value(avp, data);
         let mut r = [0; RECORD];
         r[0..4].copy_from_slice(&avp.attribute.raw.to_be_bytes());
         r[4..8].copy_from_slice(&avp.length.to_be_bytes());
@@ -213,12 +229,12 @@ fn put_records(avps: &[AVP], input: &[u8], start: usize, depth: u8, out: &mut Ve
 }
 
 // A value that the Rust keeps as bytes must be the bytes at its place.
-fn kind_and_value(value: &Value, data: &[u8]) -> (u8, u64) {
+fn kind_and_value(avp: &AVP, data: &[u8]) -> (u8, u64) {
     let kept = |bytes: &[u8]| assert_eq!(bytes, data);
-    match value {
+    match &avp.value {
         Value::Unhandled(v) => {
             kept(v);
-            (0, 0)
+            (0, valid_up_to(&avp.attribute.code, data))
         }
         Value::OctetString(v) => {
             kept(v);

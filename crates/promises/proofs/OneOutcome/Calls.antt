@@ -8,6 +8,8 @@ use contract.Lifetimes.{Lfts}
 use denote.Ref.{RefT}
 use Rattle.attribute.specs.declared.Reading.{Reading}
 use Rattle.attribute.specs.declared.Dictionary.{Dictionary}
+use Rattle.rfc3629.specs.declared.Utf8.{Utf8}
+use Rattle.rfc3629.proofs.check.Reads as check
 use Rattle.rfc3629.proofs.is_utf8.Reads as is-utf8
 use Rattle.record.specs.Record.{Record}
 use Rattle.record.proofs.Record.put.Reads as put
@@ -38,11 +40,15 @@ use Rattle.tandrekily.proofs.tandrekily_find.Reads as tandrekily-find
 use Rattle.tandrekily.proofs.tandrekily_next.Reads as tandrekily-next
 use Rattle.tandrekily.proofs.tandrekily_write.Reads as tandrekily-write
 use Rattle.tandrekily.proofs.tandrekily_is_utf8.Reads as tandrekily-is-utf8
+use Rattle.tandrekily.proofs.tandrekily_utf8.Reads as tandrekily-utf8
 use Rattle.tandrekily.proofs.tandrekily_unix_seconds.Reads as tandrekily-unix-seconds
 
 -- a reference to a slice of numbers; `now` is what it holds
 abbrev pub Slice : Type 0
 Slice = RefT (List ℕ)
+
+abbrev pub Check : Lfts 1 → Slice → Utf8 → Type 0
+Check κs s r = check.Post κs (s, tt) r (s, tt)
 
 abbrev pub IsUtf8 : Lfts 1 → Slice → Bool → Type 0
 IsUtf8 κs s r = is-utf8.Post κs (s, tt) r (s, tt)
@@ -121,6 +127,9 @@ TandrekilyWrite κs flags code appId hopId endId table pool out result out′ re
 
 abbrev pub TandrekilyIsUtf8 : Lfts 1 → Slice → Bool → Type 0
 TandrekilyIsUtf8 κs text r = tandrekily-is-utf8.Post κs (text, tt) r (text, tt)
+
+abbrev pub TandrekilyUtf8 : Lfts 1 → Slice → ℕ → Type 0
+TandrekilyUtf8 κs text r = tandrekily-utf8.Post κs (text, tt) r (text, tt)
 
 abbrev pub TandrekilyUnixSeconds : ℕ → ℤ → Type 0
 TandrekilyUnixSeconds time r = tandrekily-unix-seconds.Post tt (time, tt) r (time, tt)

@@ -1,68 +1,16 @@
--- `is_utf8` meets its contract: what is left of the text at `at` is well-formed exactly where the whole text is, since only characters were passed.
--- The loop stops where no character is at the front, or where nothing is left. The measure is what is left.
-use Prim.Native.Nat.{_+_, _-_}
-use mathlib.Core.Path.{_≡_, refl, sym, _∙_}
-use native.Mathlib.Omega.{arith}
-use lib.ListN.{length, drop}
-use denote.Ref.{now}
+-- `is_utf8` meets its contract: each answer of `check` says whether the text is well-formed.
+use mathlib.Core.Path.{sym, _∙_}
 use borrow.Author.Needs.{needs}
-use Rattle.octets.proofs.Lists.{rest}
-use Rattle.rfc3629.specs.Utf8.{charSize}
-use Rattle.rfc3629.proofs.Characters.{Passed, ended, stuck, step, run-passed}
+use Rattle.rfc3629.specs.declared.Utf8.the-variants.{WellFormed, ValidUpTo}
+use Rattle.rfc3629.proofs.Answers.{says}
 use Rattle.rfc3629.proofs.is_utf8.Statement.{statement}
 use Rattle.rfc3629.proofs.is_utf8.Tie as tie
 
-abbrev Inv-loop : tie.InvT-loop
-Inv-loop s at₀ at = Passed s at
+returns : tie.Need-returns
+returns c = sym (says _ WellFormed (sym (c .enum-told .given .1) ∙ c .before .before .check .ensures))
 
-abbrev μ-loop : tie.MeasureT-loop
-μ-loop s at₀ at = length s - at
-
--- behind the run of ASCII
-behind-run : (c : tie.After-run Inv-loop μ-loop)
-    → let l = c .before .before in
-    Passed (now (l .before .before .args .s)) (l .loop .at + c .run .result)
-behind-run c =
-    let l = c .before .before in
-    let left = rest (now (l .before .before .args .s)) (l .loop .at) (l .loop .inv .within) in
-    rw (rw left at (c .run .ensures)) (run-passed (l .loop .inv))
-
--- behind the character, if there is one
-char-size-is : (c : tie.After-char-size Inv-loop μ-loop)
-    → let r = c .before .before .before in
-    let l = r .before .before in
-    c .char-size .result ≡ charSize (drop (l .loop .at + r .run .result) (now (l .before .before .args .s)))
-char-size-is c =
-    let r = c .before .before .before in
-    let l = r .before .before in
-    rw (rest (now (l .before .before .args .s)) (l .loop .at + r .run .result) (behind-run r .within)) at (c .char-size .ensures)
-
-loop-again : tie.Need-loop-again Inv-loop μ-loop
-loop-again c = step (behind-run (c .before .before .before .before)) _ (char-size-is (c .before)) (omega arith)
-
-returns-2 : tie.Need-returns-2 Inv-loop μ-loop
-returns-2 c =
-    let passed = behind-run (c .before .before .before .before) in
-    stuck passed (omega (arith, passed .within)) (sym (c .if2 .taken) ∙ char-size-is (c .before))
+returns-2 : tie.Need-returns-2
+returns-2 c = sym (says _ (ValidUpTo _) (sym (c .enum-told2 .given .1) ∙ c .before .before .check .ensures) .ill-formed)
 
 pub is-utf8-spec : {M : Type 1} → statement M
-is-utf8-spec =
-    tie.close
-    (tie.spec
-    Inv-loop
-    μ-loop
-    (λ c. record { within = omega arith; same = refl })
-    (λ c. search needs)
-    (λ c. search needs)
-    (λ c. search needs)
-    (λ c κs. search needs)
-    (λ c. omega (arith, behind-run c))
-    (λ c. ended (behind-run (c .before)) (omega arith))
-    (λ c. omega (arith, behind-run (c .before)))
-    (λ c. search (needs, behind-run (c .before) .within))
-    (λ c. search needs)
-    (λ c κs. search needs)
-    returns-2
-    (λ c. omega (arith, loop-again c))
-    (λ c. omega (arith, loop-again c))
-    loop-again)
+is-utf8-spec = tie.close (tie.spec (λ c κs. search needs) (λ c. search needs) (λ c. search needs) returns returns-2)

@@ -7,7 +7,7 @@ use beside::with_stack;
 use sawp_diameter::diameter::inside::{deepest_untiled, Reading, Refusal, RECORD};
 use std::io::{stdin, stdout, BufReader, BufWriter, Write};
 
-const BREAKS: [&str; 26] = [
+const BREAKS: [&str; 29] = [
     "number",       // NotTiled is called TooDeep
     "amount",       // one byte more is called absent
     "records-need", // NoRecords says one more
@@ -29,6 +29,9 @@ const BREAKS: [&str; 26] = [
     "filled",       // NoRecords where members of a failing group would fill the store
     "members",      // a group stands after its first member
     "surrogates",   // text with surrogates is taken
+    "bad-byte",     // text broke one byte off
+    "no-place",     // text broke at its first byte
+    "group-broke",  // a group that fails has a place too
     "ipv6",         // an IPv6 address has a value
     "header-store", // the header alone clears the store
     "stops",        // no answer after the thousandth
@@ -166,6 +169,9 @@ fn break_acceptance(kind: &str, frame: &Frame, found: &Result<Reading, Refusal>,
                             (record[17], record[18]) = (10, 0);
                         }
                     }
+                    "bad-byte" if record[17] == 0 && record[31] > 0 => record[31] ^= 1,
+                    "no-place" if record[17] == 0 => record[24..32].fill(0),
+                    "group-broke" if record[17] == 0 && record[..4] == 279_u32.to_be_bytes() => record[31] = 1,
                     "ipv6" if record[17] == 13 && record[7] >= 24 => record[24..32].copy_from_slice(&data[8..16]),
                     _ => {
                         if let Some(at) = byte_of(kind) {

@@ -2,13 +2,13 @@
 -- Unhandled.
 use mathlib.Core.Path.{refl}
 use borrow.Author.Needs.{needs}
-use Rattle.rfc6733.specs.Value.{text, dataAs}
+use Rattle.rfc6733.specs.Value.{kinds32, kinds64, dataAs}
 use Rattle.rfc6733.proofs.Listed.{one-of}
 use Rattle.attribute.specs.ByTable.{addressBy}
-use Rattle.value.specs.declared.Value.the-variants.{OctetString, Grouped, UTF8String, DiameterIdentity, DiameterURI}
-use Rattle.value.specs.Values.{kinds32, kinds64, newValue}
+use Rattle.value.specs.declared.Value.the-variants.{OctetString, UTF8String, DiameterIdentity, DiameterURI}
+use Rattle.value.specs.Values.{newValue}
 use Rattle.value.proofs.KnownKinds.{none-known}
-use Rattle.value.proofs.Shown.{read-as, no-address, is-unhandled, by-test, number-32, number-64}
+use Rattle.value.proofs.Shown.{read-as, no-address, is-unhandled, a-group, a-text, number-32, number-64}
 use Rattle.value.proofs.Value.new.Statement.{statement}
 use Rattle.value.proofs.Value.new.Tie as tie
 
@@ -18,27 +18,19 @@ returns c = rw (c .before .match .keys1) (no-address _ _ _ (read-as _ OctetStrin
 
 returns-4 : tie.Need-returns-4
 unfolding newValue
-returns-4 c =
-    rw (c .before .before .match .keys4, ← c .before .tiles .ensures)
-    (by-test _ _ (c .before .tiles .result) Grouped refl refl (c .tested .ensures))
+returns-4 c = rw (c .before .before .match .keys4, ← c .before .tiles .ensures) (a-group _ _ (c .before .tiles .result) (c .group .ensures))
 
 returns-5 : tie.Need-returns-5
-unfolding newValue dataAs text
-returns-5 c =
-    rw (c .before .before .match .keys5, ← c .before .is-utf8 .ensures)
-    (by-test _ _ (c .before .is-utf8 .result) UTF8String refl refl (c .tested2 .ensures))
+unfolding newValue dataAs
+returns-5 c = rw (c .before .before .match .keys5) (a-text _ _ UTF8String refl refl _ (c .before .check .ensures) (c .text .ensures))
 
 returns-6 : tie.Need-returns-6
-unfolding newValue dataAs text
-returns-6 c =
-    rw (c .before .before .match .keys6, ← c .before .is-utf82 .ensures)
-    (by-test _ _ (c .before .is-utf82 .result) DiameterIdentity refl refl (c .tested3 .ensures))
+unfolding newValue dataAs
+returns-6 c = rw (c .before .before .match .keys6) (a-text _ _ DiameterIdentity refl refl _ (c .before .check2 .ensures) (c .text2 .ensures))
 
 returns-7 : tie.Need-returns-7
-unfolding newValue dataAs text
-returns-7 c =
-    rw (c .before .before .match .keys7, ← c .before .is-utf83 .ensures)
-    (by-test _ _ (c .before .is-utf83 .result) DiameterURI refl refl (c .tested4 .ensures))
+unfolding newValue dataAs
+returns-7 c = rw (c .before .before .match .keys7) (a-text _ _ DiameterURI refl refl _ (c .before .check3 .ensures) (c .text3 .ensures))
 
 returns-8 : tie.Need-returns-8
 unfolding newValue dataAs addressBy
