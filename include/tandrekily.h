@@ -91,7 +91,8 @@ enum tandrekily_record {
     TANDREKILY_RECORD_PADS = 20,    // 3: these bytes, then zeros
     TANDREKILY_RECORD_ZERO = 23,    // 1
     TANDREKILY_RECORD_VALUE = 24,   // 8: a number, an Integer32 or Enumerated as its 32 bits, an Integer64 as its 64, an IPv4
-                                    // address; else 0
+                                    // address; of ill-formed text, which has kind 0, at which byte of the data it broke, as
+                                    // `tandrekily_utf8` says; else 0
     TANDREKILY_RECORD_SIZE = 32
 };
 
@@ -209,6 +210,10 @@ void tandrekily_write(uint8_t flags, uint32_t command_code, uint32_t application
 
 // Is the text well-formed UTF-8 (RFC 3629)? The empty text is.
 bool tandrekily_is_utf8(const uint8_t *text, size_t text_length);
+
+// The length in bytes of the longest prefix of the text that is well-formed UTF-8: the text's own where all of it is. It ends with a
+// whole character, so that of 61 E2 82 is 1.
+size_t tandrekily_utf8(const uint8_t *text, size_t text_length);
 
 // The value of a Time in Unix seconds. Time goes on after 2036 as RFC 6733, section 4.3.1, asks (RFC 4330, section 3):
 //   0x80000000 to 0xFFFFFFFF: `time` - 2,208,988,800, from 1968-01-20 03:14:08 to 2036-02-07 06:28:15 UTC

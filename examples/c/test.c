@@ -75,11 +75,16 @@ static void check_refusal(const char *name, uint64_t number, uint64_t amount, co
 #define NESTED "00000117 00 00001C 0000011C 00 000014 0000010B 00 00000C 00000001"
 #define CLASS "00000019 00 000009 FF 000000"
 #define ADDRESS "00000101 00 00000E 0001 C0000201 0000"
+#define CUT_NAME "00000001 40 00000B 61E282 00"
+#define LETTERS_4 "61626364"
+#define LETTERS_16 LETTERS_4 LETTERS_4 LETTERS_4 LETTERS_4
+#define LETTERS_64 LETTERS_16 LETTERS_16 LETTERS_16 LETTERS_16
+#define LETTERS_256 LETTERS_64 LETTERS_64 LETTERS_64 LETTERS_64
 
 // A decoder takes a reading or the number of an edition.
 typedef void decoder(uint32_t, size_t, const uint8_t *, size_t, uint8_t *, size_t, uint64_t *);
 
-enum { SAWP, RFC };
+enum { SAWP, RFC, EITHER };
 
 static void message(uint32_t reading, size_t limit, const uint8_t *input, size_t length, uint8_t *store, size_t room,
                     uint64_t *result) {
@@ -176,6 +181,23 @@ static const struct acceptance messages_accepted[] = {
      "00000019 00 000009 00000000 0000001C 01 00 01 03 00000000 00000000 00000000", {0, 0, 1, 1, 1, 32, 1, 32}},
     {"Class is any bytes by the RFC", RFC, 64, MESSAGE("20") CLASS,
      "00000019 00 000009 00000000 0000001C 01 01 00 03 00000000 00000000 00000000", {0, 0, 0, 1, 1, 32, 1, 32}},
+    {"a User-Name that breaks at byte 1", EITHER, 1, MESSAGE("20") CUT_NAME,
+     "00000001 40 00000B 00000000 0000001C 01 00 01 01 00000000 00000000 00000001", {0, 0, 1, 1, 1, 32, 1, 32}},
+    {"a User-Name that breaks at byte 0", EITHER, 1, MESSAGE("20") "00000001 40 00000A C080 0000",
+     "00000001 40 00000A 00000000 0000001C 01 00 01 02 00000000 00000000 00000000", {0, 0, 1, 1, 1, 32, 1, 32}},
+    {"a User-Name that breaks at byte 256", EITHER, 1, "01000120 00000000 00000000 00000000 00000000"
+     "00000001 40 00010A" LETTERS_256 "C341 0000",
+     "00000001 40 00010A 00000000 0000001C 01 00 01 02 00000000 00000000 00000100", {0, 0, 1, 1, 1, 288, 1, 288}},
+    {"a User-Name that breaks in a group", EITHER, 2, MESSAGE("28") "00000117 00 000014" CUT_NAME,
+     "00000117 00 000014 00000000 0000001C 01 08 01 00 00000000 00000000 00000000"
+     "00000001 40 00000B 00000000 00000024 02 00 01 01 00000000 00000000 00000001",
+     {0, 0, 1, 2, 2, 40, 1, 40}},
+    {"letters in a group that does not tile", EITHER, 2, MESSAGE("20") "00000117 00 00000C" LETTERS_4,
+     "00000117 00 00000C 00000000 0000001C 01 00 01 00 00000000 00000000 00000000", {0, 0, 1, 1, 2, 32, 1, 32}},
+    {"a Result-Code of 3 letters", EITHER, 1, MESSAGE("20") "0000010C 00 00000B 616263 00",
+     "0000010C 00 00000B 00000000 0000001C 01 00 02 01 00000000 00000000 00000000", {0, 0, 2, 1, 1, 32, 1, 32}},
+    {"letters of an unknown code", EITHER, 1, MESSAGE("20") "00000000 00 00000C" LETTERS_4,
+     "00000000 00 00000C 00000000 0000001C 01 00 00 00 00000000 00000000 00000000", {0, 0, 0, 1, 1, 32, 1, 32}},
 };
 
 static const struct acceptance avps_accepted[] = {
@@ -189,6 +211,34 @@ static const struct acceptance avps_accepted[] = {
      "0000002C 9F 00000E 000028AF 0000000C 01 01 0C 02 12340000 00000000 00000000", {0, 0, 12, 1, 1, 16}},
     {"AVP: an Event-Timestamp of March 2036 keeps its bits", RFC, 1, "00000037 40 00000C 001DF780",
      "00000037 40 00000C 00000000 00000008 01 0E 00 00 00000000 00000000 001DF780", {0, 0, 0, 1, 1, 12}},
+    {"AVP: a User-Name that breaks at byte 1", EITHER, 1, CUT_NAME,
+     "00000001 40 00000B 00000000 00000008 01 00 01 01 00000000 00000000 00000001", {0, 0, 1, 1, 1, 12}},
+    {"AVP: a User-Name that its padding would complete", EITHER, 1, "00000001 40 00000B 61E282 AC",
+     "00000001 40 00000B 00000000 00000008 01 00 09 01 AC000000 00000000 00000001", {0, 0, 9, 1, 1, 12}},
+    {"AVP: a User-Name that breaks at byte 0", EITHER, 1, "00000001 40 00000A 8061 0000",
+     "00000001 40 00000A 00000000 00000008 01 00 01 02 00000000 00000000 00000000", {0, 0, 1, 1, 1, 12}},
+    {"AVP: a User-Name that breaks at byte 256", EITHER, 1, "00000001 40 000109" LETTERS_256 "FF 000000",
+     "00000001 40 000109 00000000 00000008 01 00 01 03 00000000 00000000 00000100", {0, 0, 1, 1, 1, 268}},
+    {"AVP: an Origin-Host that breaks at byte 2", EITHER, 1, "00000108 40 00000B C3A9FF 00",
+     "00000108 40 00000B 00000000 00000008 01 00 01 01 00000000 00000000 00000002", {0, 0, 1, 1, 1, 12}},
+    {"AVP: a Redirect-Host that breaks at byte 3", EITHER, 1, "00000124 40 00000C 616161FF",
+     "00000124 40 00000C 00000000 00000008 01 00 01 00 00000000 00000000 00000003", {0, 0, 1, 1, 1, 12}},
+    {"AVP: a Class that breaks at byte 1 as the Rust reads it", SAWP, 1, "00000019 00 00000A 61FF 0000",
+     "00000019 00 00000A 00000000 00000008 01 00 01 02 00000000 00000000 00000001", {0, 0, 1, 1, 1, 12}},
+    {"AVP: a vendor's User-Name breaks as the Rust reads it", SAWP, 1, "00000001 80 00000E 000028AF 61FF 0000",
+     "00000001 80 00000E 000028AF 0000000C 01 00 01 02 00000000 00000000 00000001", {0, 0, 1, 1, 1, 16}},
+    {"AVP: a vendor's User-Name is unknown by the RFC", RFC, 1, "00000001 80 00000E 000028AF 61FF 0000",
+     "00000001 80 00000E 000028AF 0000000C 01 00 00 02 00000000 00000000 00000000", {0, 0, 0, 1, 1, 16}},
+    {"AVP: letters in a group that does not tile", EITHER, 2, "00000117 00 00000C" LETTERS_4,
+     "00000117 00 00000C 00000000 00000008 01 00 01 00 00000000 00000000 00000000", {0, 0, 1, 1, 2, 12}},
+    {"AVP: a Result-Code of 3 letters", EITHER, 1, "0000010C 00 00000B 616263 00",
+     "0000010C 00 00000B 00000000 00000008 01 00 02 01 00000000 00000000 00000000", {0, 0, 2, 1, 1, 12}},
+    {"AVP: a Host-IP-Address of 3 bytes", EITHER, 1, "00000101 00 00000B 0001 61 00",
+     "00000101 00 00000B 00000000 00000008 01 00 02 01 00000000 00000000 00000000", {0, 0, 2, 1, 1, 12}},
+    {"AVP: a Host-IP-Address of another family by the RFC", RFC, 1, "00000101 00 00000C" LETTERS_4,
+     "00000101 00 00000C 00000000 00000008 01 00 00 00 00000000 00000000 00000000", {0, 0, 0, 1, 1, 12}},
+    {"AVP: letters of an unknown code", EITHER, 1, "00000000 00 00000C" LETTERS_4,
+     "00000000 00 00000C 00000000 00000008 01 00 00 00 00000000 00000000 00000000", {0, 0, 0, 1, 1, 12}},
 };
 
 // The store ends with the last record, or has room for five bytes or a record and five bytes more: all zero then.
@@ -212,8 +262,9 @@ static void accepts(decoder *decode, uint32_t by, const struct acceptance *a) {
 
 // An edition keeps what the RFC reading has.
 static void accept(decoder *decode, decoder *decode_by, const struct acceptance *a) {
-    accepts(decode, a->by, a);
-    if (a->by != RFC) return;
+    if (a->by != RFC) accepts(decode, SAWP, a);
+    if (a->by == SAWP) return;
+    accepts(decode, RFC, a);
     accepts(decode_by, TANDREKILY_RFC_4006, a);
     accepts(decode_by, TANDREKILY_RFC_8506, a);
 }
@@ -239,6 +290,8 @@ static void decoders(void) {
     "000001BF 40 000010 00000000 00000024 02 03 00 00 00000000 FFFFFFFF FFFFFFFD"  \
     "000001AD 40 00000C 00000000 00000034 02 02 00 00 00000000 00000000 FFFFFFFE"
 #define EQUIPMENT "0000028D 40 000014 0000028E 40 00000C 01020304"
+#define CUT_SERVER "000001B3 00 00000B 61E282 00"
+#define CUT_URL "0000029B 00 00000B 61E282 00"
 
 // By no edition. A limit that is bad too is answered first, and an input that is empty, cut off or of no version after it.
 static const struct refusal no_edition[] = {
@@ -275,6 +328,12 @@ static const struct acceptance messages_by[] = {
      "0000028D 40 000014 00000000 0000001C 01 08 00 00 00000000 00000000 00000000"
      "0000028E 40 00000C 00000000 00000024 02 01 00 00 00000000 00000000 00000000",
      {0, 0, 0, 2, 2, 40, 1, 40}},
+    {"a Redirect-Server-Address that breaks at byte 1", TANDREKILY_RFC_4006, 1, MESSAGE("20") CUT_SERVER,
+     "000001B3 00 00000B 00000000 0000001C 01 00 01 01 00000000 00000000 00000001", {0, 0, 1, 1, 1, 32, 1, 32}},
+    {"a Redirect-Address-URL that breaks at byte 1 by RFC 8506", TANDREKILY_RFC_8506, 1, MESSAGE("20") CUT_URL,
+     "0000029B 00 00000B 00000000 0000001C 01 00 01 01 00000000 00000000 00000001", {0, 0, 1, 1, 1, 32, 1, 32}},
+    {"letters in a CC-Money that does not tile", TANDREKILY_RFC_8506, 2, MESSAGE("20") "0000019D 00 00000C" LETTERS_4,
+     "0000019D 00 00000C 00000000 0000001C 01 00 01 00 00000000 00000000 00000000", {0, 0, 1, 1, 2, 32, 1, 32}},
 };
 
 static const struct acceptance avps_by[] = {
@@ -312,6 +371,16 @@ static const struct acceptance avps_by[] = {
      "000001B6 00 000009 00000000 00000008 01 01 00 03 00000000 00000000 00000000", {0, 0, 0, 1, 1, 12}},
     {"AVP: a vendor's Exponent", TANDREKILY_RFC_8506, 1, "000001AD 80 000010 000028AF 00000001",
      "000001AD 80 000010 000028AF 0000000C 01 00 00 00 00000000 00000000 00000000", {0, 0, 0, 1, 1, 16}},
+    {"AVP: a Redirect-Server-Address that breaks at byte 1", TANDREKILY_RFC_4006, 1, CUT_SERVER,
+     "000001B3 00 00000B 00000000 00000008 01 00 01 01 00000000 00000000 00000001", {0, 0, 1, 1, 1, 12}},
+    {"AVP: a Subscription-Id-Data that breaks at byte 0", TANDREKILY_RFC_8506, 1, "000001BC 00 000009 FF 000000",
+     "000001BC 00 000009 00000000 00000008 01 00 01 03 00000000 00000000 00000000", {0, 0, 1, 1, 1, 12}},
+    {"AVP: a Redirect-Address-URL that breaks at byte 1 by RFC 8506", TANDREKILY_RFC_8506, 1, CUT_URL,
+     "0000029B 00 00000B 00000000 00000008 01 00 01 01 00000000 00000000 00000001", {0, 0, 1, 1, 1, 12}},
+    {"AVP: a Redirect-Address-URL is unknown by RFC 4006", TANDREKILY_RFC_4006, 1, CUT_URL,
+     "0000029B 00 00000B 00000000 00000008 01 00 00 01 00000000 00000000 00000000", {0, 0, 0, 1, 1, 12}},
+    {"AVP: letters in a CC-Money that does not tile", TANDREKILY_RFC_4006, 2, "0000019D 00 00000C" LETTERS_4,
+     "0000019D 00 00000C 00000000 00000008 01 00 01 00 00000000 00000000 00000000", {0, 0, 1, 1, 2, 12}},
 };
 
 // The readings have no code of the editions.
@@ -320,6 +389,8 @@ static const struct acceptance without_edition[] = {
      "000001AD 40 00000C 00000000 00000008 01 00 00 00 00000000 00000000 00000000", {0, 0, 0, 1, 1, 12}},
     {"AVP: Exponent is unknown by RFC 6733", RFC, 1, EXPONENT,
      "000001AD 40 00000C 00000000 00000008 01 00 00 00 00000000 00000000 00000000", {0, 0, 0, 1, 1, 12}},
+    {"AVP: Redirect-Server-Address is unknown by RFC 6733", RFC, 1, CUT_SERVER,
+     "000001B3 00 00000B 00000000 00000008 01 00 00 01 00000000 00000000 00000000", {0, 0, 0, 1, 1, 12}},
 };
 
 static void edition_refusals(void) {
@@ -585,16 +656,45 @@ static void writer(void) {
 
 // ---- values
 
+static const char *const well_formed[] = {
+    "", "00", "7F", "C280", "DFBF", "E0A080", "ED9FBF", "EE8080", "EFBFBF", "F0908080", "F48FBFBF", "61 C3A9 62",
+    "6162636465666768 696A", "61626364656667 C3A9", "E282AC F09F9880 C3A9 61", LETTERS_256,
+};
+
+// A text, and how many bytes of it are well-formed.
+struct broken {
+    const char *text;
+    size_t valid;
+};
+
+static const struct broken ill_formed[] = {
+    {"80", 0}, {"C0AF", 0}, {"C1BF", 0}, {"C3", 0}, {"C341", 0}, {"E09F80", 0}, {"E282", 0}, {"EDA080", 0}, {"EDBFBF", 0},
+    {"F08F8080", 0}, {"F4908080", 0}, {"F5808080", 0}, {"F0908041", 0}, {"FF", 0}, {"61 80", 1},
+    {"61 E282", 1},
+    {"6162 EDA080", 2},
+    {"6162 C080 63", 2},
+    {"C3A9 E282AC F09F9880 80", 9},
+    {"C3A9 F09F98", 2},
+    {"80 6162636465666768", 0},
+    {"6162 FF 6364 C3A9 FF 65", 2},
+    {"6162636465666768 FF", 8},
+    {"6162636465666768 696A FF 6B6C6D6E6F707172", 10},
+    {"61626364656667 E282", 7},
+    {LETTERS_256 "FF" LETTERS_16, 256},
+};
+
 static void texts(void) {
-    static const char *const well[] = {"", "00", "7F", "C280", "DFBF", "E0A080", "ED9FBF", "EE8080", "EFBFBF", "F0908080",
-                                       "F48FBFBF", "61 C3A9 62"};
-    static const char *const ill[] = {"80", "C0AF", "C1BF", "C3", "C341", "E09F80", "E282", "EDA080", "EDBFBF", "F08F8080",
-                                      "F4908080", "F5808080", "F0908041", "FF", "61 80"};
     uint8_t text[MOST];
-    for (size_t i = 0; i < sizeof well / sizeof *well; i++)
-        check(well[i], "taken for ill-formed", tandrekily_is_utf8(text, bytes_of(well[i], text)));
-    for (size_t i = 0; i < sizeof ill / sizeof *ill; i++)
-        check(ill[i], "taken for well-formed", !tandrekily_is_utf8(text, bytes_of(ill[i], text)));
+    for (size_t i = 0; i < sizeof well_formed / sizeof *well_formed; i++) {
+        size_t length = bytes_of(well_formed[i], text);
+        check(well_formed[i], "taken for ill-formed", tandrekily_is_utf8(text, length));
+        check(well_formed[i], "not well-formed to its end", tandrekily_utf8(text, length) == length);
+    }
+    for (size_t i = 0; i < sizeof ill_formed / sizeof *ill_formed; i++) {
+        size_t length = bytes_of(ill_formed[i].text, text);
+        check(ill_formed[i].text, "taken for well-formed", !tandrekily_is_utf8(text, length));
+        check(ill_formed[i].text, "broken at another byte", tandrekily_utf8(text, length) == ill_formed[i].valid);
+    }
 }
 
 static void seconds(uint32_t time, int64_t expected) {

@@ -18,6 +18,8 @@ typedef void writer(uint8_t, uint32_t, uint32_t, uint32_t, uint32_t, const uint8
 writer __real_tandrekily_write, __wrap_tandrekily_write;
 bool __real_tandrekily_is_utf8(const uint8_t *, size_t);
 bool __wrap_tandrekily_is_utf8(const uint8_t *, size_t);
+size_t __real_tandrekily_utf8(const uint8_t *, size_t);
+size_t __wrap_tandrekily_utf8(const uint8_t *, size_t);
 int64_t __real_tandrekily_unix_seconds(uint32_t);
 int64_t __wrap_tandrekily_unix_seconds(uint32_t);
 typedef void decoder_by(uint32_t, size_t, const uint8_t *, size_t, uint8_t *, size_t, uint64_t *);
@@ -32,13 +34,16 @@ comparer __real_tandrekily_compare, __wrap_tandrekily_compare;
 
 // Each function's ways to be wrong are numbered from a hundred of its own; the first are the numbers of its result or outline.
 enum { MESSAGE = 100, AVP = 200, HEADER = 300, WRITE = 400, IS_UTF8 = 500, UNIX_SECONDS = 600, FIND = 700, NEXT = 800 };
-enum { MESSAGE_BY = 900, AVP_BY = 1000, INTEGER32 = 1100, INTEGER64 = 1200, COMPARE = 1300 };
+enum { MESSAGE_BY = 900, AVP_BY = 1000, INTEGER32 = 1100, INTEGER64 = 1200, COMPARE = 1300, UTF8 = 1400 };
 enum { TOUCHED_IF_REFUSED = 20, TAIL_IF_ACCEPTED = 21, OTHER_READING = 22, OTHER_LIMIT = 23, BYTE = 40 };
 enum { OTHER_CODE = 24, LAST = 25, NONE_IF_NOT_TILED = 26, NOT_TILED_IF_NONE = 27 };
 enum { STAYS = 28, FURTHER = 29, LATER = 30 };
 enum { OTHER_EDITION = 31, ANY_EDITION, LOW_BITS, EDITION_BEFORE_LIMIT, INPUT_BEFORE_EDITION, NO_EDITION, SIGN_EXTENDED };
+enum { NO_BREAK = 72, BREAK_IN_A_BYTE, BREAK_IN_INPUT, BREAK_OF_GROUP, BREAK_OF_LENGTH, BREAK_OF_UNKNOWN };
 enum { A_SECOND_LATE, OLD_RULE, OTHER_WAY, SHORT_AT_THE_TURN, IN_32_BITS };
 enum { OFF_BY_ONE, NO_SIGN };
+enum { ONE_MORE, ONE_LESS, NOTHING, ALL, NOTHING_IF_BROKEN, NOTHING_IF_WELL_FORMED, CHARACTERS, EIGHTS, BROKEN_ONE_TOO };
+enum { REST_TOO = 9, SURROGATES_TOO, OVERLONG_TOO, LOW_BYTE };
 enum { OTHER_ANSWER, OPPOSITE, NEVER_EQUAL, ORDER_IF_REFUSED, TAKES_19, TAKES_MINUS_19, REFUSES_18, REFUSES_MINUS_18 };
 enum { EXPONENT_LOW_BITS = 8, NO_EXPONENTS, FIRST_ALONE, SECOND_ALONE, ZEROS_TAKEN, SIGNS_TAKEN, DOUBLES, WRAPPED, WHOLE };
 
@@ -61,9 +66,43 @@ static void spoil_bytes(int way, bool accepted, uint8_t *bytes, size_t length, s
     if (way >= BYTE && way < BYTE + TANDREKILY_RECORD_SIZE && accepted && (size_t)(way - BYTE) < used) bytes[way - BYTE] ^= 1;
 }
 
+static size_t number_at(const uint8_t *at, int size) {
+    size_t number = 0;
+    for (int i = 0; i < size; i++) number = number << 8 | at[i];
+    return number;
+}
+
+// How many bytes of a record's data would be well-formed text.
+static size_t valid_data(const uint8_t *record, const uint8_t *input) {
+    bool vendor = record[TANDREKILY_RECORD_FLAGS] & TANDREKILY_AVP_VENDOR_BIT;
+    size_t length = number_at(record + TANDREKILY_RECORD_LENGTH, 3);
+    length -= vendor ? TANDREKILY_AVP_HEAD_WITH_VENDOR : TANDREKILY_AVP_HEAD;
+    return __real_tandrekily_utf8(input + number_at(record + TANDREKILY_RECORD_PLACE, 4), length);
+}
+
+// Is a record of kind 0 one of those that get a number in this way? Of ill-formed text it is the right one.
+static bool gets_break(int way, uint8_t errors) {
+    if (way == BREAK_OF_GROUP) return errors & TANDREKILY_DATA_VALUE;
+    if (way == BREAK_OF_LENGTH) return errors & TANDREKILY_DATA_LENGTH;
+    return way == BREAK_OF_UNKNOWN && (errors & (TANDREKILY_DATA_VALUE | TANDREKILY_DATA_LENGTH)) == 0;
+}
+
+// Where a text broke is left out, cut to a byte or counted from the input's start, or other records of kind 0 have such a number too.
+static void spoil_breaks(int way, uint8_t *store, uint64_t records, const uint8_t *input) {
+    for (uint8_t *record = store; records > 0; records--, record += TANDREKILY_RECORD_SIZE) {
+        uint8_t *value = record + TANDREKILY_RECORD_VALUE;
+        if (record[TANDREKILY_RECORD_KIND] != TANDREKILY_UNHANDLED) continue;
+        if (way == NO_BREAK) memset(value, 0, 8);
+        if (way == BREAK_IN_A_BYTE) memset(value, 0, 7);
+        if (way == BREAK_IN_INPUT && value[7] != 0) value[7] += record[TANDREKILY_RECORD_PLACE + 3];
+        if (gets_break(way, record[TANDREKILY_RECORD_ERRORS])) value[7] = (uint8_t)valid_data(record, input);
+    }
+}
+
 static void spoil_decoder(int way, decoder *decode, bool rfc, size_t limit, const uint8_t *input, size_t n, uint8_t *store,
                           size_t room, uint64_t *result) {
     decode(rfc ^ (way == OTHER_READING), limit + (way == OTHER_LIMIT), input, n, store, room, result);
+    spoil_breaks(way, store, result[TANDREKILY_RECORDS], input);
     size_t used = (size_t)result[TANDREKILY_RECORDS] * TANDREKILY_RECORD_SIZE;
     spoil_bytes(way, result[TANDREKILY_NUMBER] == TANDREKILY_ACCEPTED, store, room, used);
     spoil_result(way, result);
@@ -126,6 +165,57 @@ bool __wrap_tandrekily_is_utf8(const uint8_t *text, size_t n) {
     return __real_tandrekily_is_utf8(text, n) ^ (wrong(IS_UTF8) == 0);
 }
 
+static bool continues(uint8_t byte) {
+    return (byte & 0xC0) == 0x80;
+}
+
+static size_t characters(const uint8_t *text, size_t n) {
+    size_t count = 0;
+    for (size_t i = 0; i < n; i++) count += !continues(text[i]);
+    return count;
+}
+
+// Past the character that is broken at `at`, whatever there is of it.
+static size_t past_broken(const uint8_t *text, size_t n, size_t at) {
+    at++;
+    while (at < n && continues(text[at])) at++;
+    return at;
+}
+
+// All well-formed bytes, those after broken ones too.
+static size_t well_formed(const uint8_t *text, size_t n) {
+    size_t valid = __real_tandrekily_utf8(text, n);
+    return valid == n ? n : valid + well_formed(text + valid + 1, n - valid - 1);
+}
+
+// As if this first byte and what follows it, `size` bytes in all, were a character.
+static size_t taking(uint8_t first, size_t size, const uint8_t *text, size_t n) {
+    size_t valid = __real_tandrekily_utf8(text, n);
+    if (n - valid < size || text[valid] != first) return valid;
+    return valid + size + taking(first, size, text + valid + size, n - valid - size);
+}
+
+size_t __wrap_tandrekily_utf8(const uint8_t *text, size_t n) {
+    size_t valid = __real_tandrekily_utf8(text, n);
+    bool broken = valid < n;
+    switch (wrong(UTF8)) {
+    case ONE_MORE: return valid + broken;
+    case ONE_LESS: return valid - (valid > 0);
+    case NOTHING: return 0;
+    case ALL: return n;
+    case NOTHING_IF_BROKEN: return broken ? 0 : n;
+    case NOTHING_IF_WELL_FORMED: return broken ? valid : 0;
+    case CHARACTERS: return characters(text, valid);
+    case EIGHTS: return broken ? valid - valid % 8 : n;
+    case BROKEN_ONE_TOO: return broken ? past_broken(text, n, valid) : n;
+    case REST_TOO: return well_formed(text, n);
+    case SURROGATES_TOO: return taking(0xED, 3, text, n);
+    case OVERLONG_TOO: return taking(0xC0, 2, text, n);
+    case LOW_BYTE: return (uint8_t)valid;
+    default: return valid;
+    }
+}
+
 int64_t __wrap_tandrekily_unix_seconds(uint32_t time) {
     int64_t seconds = __real_tandrekily_unix_seconds(time);
     int64_t era = INT64_C(1) << 32;
@@ -172,6 +262,7 @@ static void spoil_decoder_by(int way, decoder_by *decode_by, decoder *decode, ui
     if (way == NO_EDITION && is_edition(edition)) decode(true, limit, input, n, store, room, result);
     else decode_by(edition_asked(way, edition, n), limit, input, n, store, room, result);
     if (way == SIGN_EXTENDED) extend_signs(store, result[TANDREKILY_RECORDS]);
+    spoil_breaks(way, store, result[TANDREKILY_RECORDS], input);
     size_t used = (size_t)result[TANDREKILY_RECORDS] * TANDREKILY_RECORD_SIZE;
     spoil_bytes(way, result[TANDREKILY_NUMBER] == TANDREKILY_ACCEPTED, store, room, used);
     spoil_result(way, result);

@@ -1,4 +1,4 @@
-//! The unsafe boundary: eleven functions of the proved library, and one safe wrapper for each. No other file may have `unsafe`.
+//! The unsafe boundary: twelve functions of the proved library, and one safe wrapper for each. No other file may have `unsafe`.
 //! The library has two more, `tandrekily_integer32` and `tandrekily_integer64`, for which Rust has casts.
 //!
 //! The declarations are those of `crates/tandrekily/src/lib.rt`. What every call below relies on:
@@ -91,6 +91,8 @@ extern "C" {
     );
 
     fn tandrekily_is_utf8(text: *const u8, text_len: usize) -> bool;
+
+    fn tandrekily_utf8(text: *const u8, text_len: usize) -> usize;
 
     fn tandrekily_unix_seconds(time: u32) -> i64;
 
@@ -221,6 +223,12 @@ pub fn write(fields: crate::Fields, table: &[u8], pool: &[u8], out: &mut [u8]) -
 pub fn is_utf8(text: &[u8]) -> bool {
     // SAFETY: `text` is a live slice, which is only read. The answer is a compiled `bool`, so it is 0 or 1.
     unsafe { tandrekily_is_utf8(text.as_ptr(), text.len()) }
+}
+
+/// How many bytes at the front are well-formed.
+pub fn utf8(text: &[u8]) -> usize {
+    // SAFETY: `text` is a live slice, which is only read. A number comes out.
+    unsafe { tandrekily_utf8(text.as_ptr(), text.len()) }
 }
 
 pub fn unix_seconds(time: u32) -> i64 {

@@ -122,6 +122,7 @@ mod reader;
 mod record;
 mod refusal;
 mod unit_value;
+mod utf8;
 mod value;
 
 use answer::Answer;
@@ -131,6 +132,7 @@ pub use reader::{find, Outline, Reader};
 pub use record::{Avp, Record, Records};
 pub use refusal::Refusal;
 pub use unit_value::UnitValue;
+pub use utf8::Utf8Error;
 pub use value::{kinds, Value};
 
 /// Flags of what is wrong in a message that is accepted all the same.
@@ -321,7 +323,8 @@ pub fn decode_avp<'a>(
 /// // User-Equipment-Info-Extension came with RFC 8506.
 /// let avp = b"\0\0\x02\x8D\x40\0\0\x08";
 /// let mut store = [0; Record::SIZE];
-/// for (edition, value) in [(Edition::Rfc4006, Value::Unhandled), (Edition::Rfc8506, Value::Grouped)] {
+/// let unknown = Value::Unhandled { valid_up_to: 0 };
+/// for (edition, value) in [(Edition::Rfc4006, unknown), (Edition::Rfc8506, Value::Grouped)] {
 ///     let decoded = decode_avp_by(avp, edition, Limits::default(), &mut store)?;
 ///     assert_eq!(decoded.records().next().unwrap().value(), value);
 /// }
@@ -367,6 +370,16 @@ pub fn write(fields: Fields, table: &[u8], pool: &[u8], out: &mut [u8]) -> Resul
 /// Is the text well-formed UTF-8 (RFC 3629)?
 pub fn is_utf8(text: &[u8]) -> bool {
     ffi::is_utf8(text)
+}
+
+/// Is the text well-formed UTF-8 (RFC 3629), and if not, up to where? The [`Utf8Error`] says at which byte it breaks.
+pub fn utf8(text: &[u8]) -> Result<(), Utf8Error> {
+    let valid_up_to = ffi::utf8(text);
+    if valid_up_to == text.len() {
+        Ok(())
+    } else {
+        Err(Utf8Error { valid_up_to })
+    }
 }
 
 /// A [`Time`](Value::Time) in Unix seconds. It goes on after 2036 as RFC 6733, section 4.3.1, asks (RFC 4330, section 3).

@@ -30,7 +30,8 @@ pub struct Record {
     pub padding: u8,
     /// The padding itself, the unused bytes 0.
     pub pads: [u8; 3],
-    /// The value where it is a number or an IPv4 address, as its bits; else 0. [`Value`] says what they mean.
+    /// The value where it is a number or an IPv4 address, as its bits. Of ill-formed text, which is
+    /// [`UNHANDLED`](crate::kinds::UNHANDLED), at which byte of the data it broke. Else 0. [`Value`] says what they mean.
     pub bits: u64,
 }
 

@@ -45,7 +45,12 @@ pub mod kinds {
 pub enum Value<'a> {
     /// A code that the reading doesn't know, or data that the code doesn't take; the record's error flags tell which.
     /// [`Avp::data`](crate::Avp::data) has the bytes.
-    Unhandled,
+    Unhandled {
+        /// Of ill-formed text, how many bytes at the front of its [data](crate::Avp::data) are well-formed: the text broke at that
+        /// byte, as [`Utf8Error::valid_up_to`](crate::Utf8Error::valid_up_to) has it. 0 for all else. It is never past the data, so
+        /// `&data[..valid_up_to]` doesn't panic.
+        valid_up_to: usize,
+    },
     /// Bytes.
     OctetString(&'a [u8]),
     /// A signed number of 32 bits. Only codes of the [editions](crate::Edition) yield it.
@@ -80,10 +85,11 @@ pub enum Value<'a> {
 impl<'a> Value<'a> {
     /// The value of a record that was decoded in this reading of this input, which by an edition is [`Reading::Rfc`].
     ///
-    /// Any record is answered: where it doesn't fit the input, its value is [`Unhandled`](Value::Unhandled).
+    /// Any record is answered: where it doesn't fit the input, its value is [`Unhandled`](Value::Unhandled) with 0.
     pub fn new(record: &Record, reading: Reading, input: &'a [u8]) -> Value<'a> {
         let text = || from_utf8(record.data(input)?).ok();
         let value = match record.kind {
+            kinds::UNHANDLED => broken(record, input),
             kinds::OCTET_STRING => record.data(input).map(Value::OctetString),
             kinds::UTF8_STRING => text().map(Value::Utf8String),
             kinds::DIAMETER_IDENTITY => text().map(Value::DiameterIdentity),
@@ -91,7 +97,7 @@ impl<'a> Value<'a> {
             kinds::ADDRESS => address(record, reading, input).map(Value::Address),
             kind => Value::of_bits(kind, reading, record.bits),
         };
-        value.unwrap_or(Value::Unhandled)
+        value.unwrap_or(Value::Unhandled { valid_up_to: 0 })
     }
 
     /// Numbers stand in the record itself; those of 32 bits in its low half.
@@ -110,6 +116,13 @@ impl<'a> Value<'a> {
             _ => return None,
         })
     }
+}
+
+/// Where the text broke. The decoder's number is always within the data; in another table it may be anything.
+fn broken<'a>(record: &Record, input: &[u8]) -> Option<Value<'a>> {
+    let valid_up_to = usize::try_from(record.bits).ok()?;
+    let data = record.data(input)?;
+    (valid_up_to < data.len()).then_some(Value::Unhandled { valid_up_to })
 }
 
 fn enumerated(reading: Reading, bits: u32) -> i64 {

@@ -5,7 +5,7 @@ mod random;
 use random::Random;
 use tandrekily::{kinds, Avp, Reading, Record, Records, Value};
 
-/// Rows of any bytes: half of them with lengths and places that are near the input, which else would be met too seldom.
+/// Rows of any bytes: half of them with lengths, places and bits that are near the input, which else would be met too seldom.
 fn any_row(random: &mut Random) -> [u8; Record::SIZE] {
     let mut row = [0; Record::SIZE];
     for chunk in row.chunks_mut(8) {
@@ -13,9 +13,10 @@ fn any_row(random: &mut Random) -> [u8; Record::SIZE] {
     }
     row[17] %= 16;
     if random.next() % 2 == 0 {
-        let (length, place) = (row[7] % 40, row[15] % 40);
+        let (length, place, bits) = (row[7] % 40, row[15] % 40, row[31] % 40);
         row[5..8].copy_from_slice(&[0, 0, length]);
         row[12..16].copy_from_slice(&[0, 0, 0, place]);
+        row[24..32].copy_from_slice(&u64::from(bits).to_be_bytes());
     }
     row
 }
@@ -33,6 +34,27 @@ fn any_table_is_answered() {
         assert!(inside.iter().any(text));
         assert!(!outside.iter().any(text));
     }
+}
+
+/// Where an AVP's text broke, and 0 where it didn't.
+fn broken_at(avp: &Avp) -> usize {
+    match avp.value() {
+        Value::Unhandled { valid_up_to } => valid_up_to,
+        _ => 0,
+    }
+}
+
+#[test]
+fn no_text_breaks_outside_its_data() {
+    let mut random = Random(6);
+    let table: Vec<u8> = (0..20_000).flat_map(|_| any_row(&mut random)).collect();
+    let mut records = Records::new(&table, Reading::Rfc, &[b'a'; 32]);
+    for avp in records.clone() {
+        let size = avp.data().map_or(0, <[u8]>::len);
+        let place = broken_at(&avp);
+        assert!(place == 0 || place < size, "{:?}", avp.record);
+    }
+    assert!(records.any(|avp| broken_at(&avp) > 0));
 }
 
 /// Byte 23 is always 0 and has no field.
@@ -58,7 +80,7 @@ fn the_last_place_and_length() {
     assert_eq!(record.data(&[0; 8]), None);
     assert_eq!(
         Value::new(&record, Reading::Sawp, &[0; 8]),
-        Value::Unhandled
+        Value::Unhandled { valid_up_to: 0 }
     );
 }
 

@@ -8,6 +8,8 @@ const LENT: u8 = 0xA5;
 
 const EDITIONS: [Edition; 2] = [Edition::Rfc4006, Edition::Rfc8506];
 
+const UNHANDLED: Value = Value::Unhandled { valid_up_to: 0 };
+
 /// Numbers beside those of the editions, and two that are one's in their low 16 bits.
 const NONE: [u32; 10] = [0, 1, 4005, 4007, 6733, 8505, 8507, 69_542, 74_042, u32::MAX];
 
@@ -57,7 +59,7 @@ fn signed_numbers() {
     check_both(429, &[0xFF, 0xFF, 0xFF, 0xFE], Value::Integer32(-2));
     check_both(429, &[0x80, 0, 0, 0], Value::Integer32(i32::MIN));
     check_both(429, &[0, 0, 0, 18, 0], Value::Integer32(18));
-    check_both(429, &[0, 0, 0], Value::Unhandled);
+    check_both(429, &[0, 0, 0], UNHANDLED);
     check_both(447, &[0xFF; 8], Value::Integer64(-1));
     check_both(
         447,
@@ -65,7 +67,7 @@ fn signed_numbers() {
         Value::Integer64(i64::MIN),
     );
     check_both(447, &[0, 0, 0, 0, 0, 0, 4, 26, 9], Value::Integer64(1050));
-    check_both(447, &[0; 7], Value::Unhandled);
+    check_both(447, &[0; 7], UNHANDLED);
 }
 
 #[test]
@@ -75,10 +77,10 @@ fn the_other_kinds() {
     check_both(415, &[0xFF; 4], Value::Unsigned32(u32::MAX));
     check_both(412, &[0xFF; 8], Value::Unsigned64(u64::MAX));
     check_both(445, &avp(447, &[0; 8]), Value::Grouped);
-    check_both(445, &[0], Value::Unhandled);
+    check_both(445, &[0], UNHANDLED);
     check_both(416, &[0xFF; 4], Value::Enumerated(-1));
     check_both(424, "é".as_bytes(), Value::Utf8String("é"));
-    check_both(424, &[0xFF], Value::Unhandled);
+    check_both(424, &[0xFF], UNHANDLED);
     check_both(451, &[0xFF; 4], Value::Time(u32::MAX));
 }
 
@@ -94,8 +96,20 @@ fn codes_of_rfc8506() {
     ];
     for (code, data, value) in later {
         check(Edition::Rfc8506, code, data, value);
-        check(Edition::Rfc4006, code, data, Value::Unhandled);
+        check(Edition::Rfc4006, code, data, UNHANDLED);
     }
+}
+
+/// User-Name, and the text of both editions; then one of the later, which the earlier doesn't know.
+#[test]
+fn ill_formed_text_says_where_it_broke() {
+    let (cut, at_1) = (b"a\xE2\x82", Value::Unhandled { valid_up_to: 1 });
+    for code in [1, 424, 435, 444, 461] {
+        check_both(code, cut, at_1);
+        check_both(code, b"\xC0\x80ab", UNHANDLED);
+    }
+    check(Edition::Rfc8506, 667, cut, at_1);
+    check(Edition::Rfc4006, 667, cut, UNHANDLED);
 }
 
 /// The kinds of all codes with 8 bytes of data that are text and no AVP.

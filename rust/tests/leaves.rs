@@ -1,19 +1,11 @@
-//! The two functions that take no message.
+//! The three functions that take no message.
 
 mod random;
+mod texts;
 
 use random::Random;
-use tandrekily::{is_utf8, unix_seconds};
-
-/// Up to four bytes. Most bytes of a text are continuations, and few random bytes are.
-fn any_text(random: &mut Random) -> Vec<u8> {
-    let size = random.next() as usize % 5;
-    let mut text = random.next().to_be_bytes()[..size].to_vec();
-    for byte in text.iter_mut().skip(1) {
-        *byte = *byte & 0x3F | 0x80;
-    }
-    text
-}
+use tandrekily::{is_utf8, unix_seconds, utf8};
+use texts::{any_text, longer_text, LONGEST};
 
 /// A text behind up to 20 letters and before up to 20, as a name is that has one letter of another script.
 fn amid_letters(text: &[u8], random: &mut Random) -> Vec<u8> {
@@ -21,10 +13,14 @@ fn amid_letters(text: &[u8], random: &mut Random) -> Vec<u8> {
     [&letters(), text, &letters()].concat()
 }
 
+/// Either both take the text for well-formed, or it breaks at the same byte for both.
 fn agrees(text: &[u8]) {
+    let theirs = std::str::from_utf8(text).err();
+    let ours = utf8(text).err();
+    assert_eq!(is_utf8(text), theirs.is_none(), "{text:02x?}");
     assert_eq!(
-        is_utf8(text),
-        std::str::from_utf8(text).is_ok(),
+        ours.map(|error| error.valid_up_to()),
+        theirs.map(|error| error.valid_up_to()),
         "{text:02x?}"
     );
 }
@@ -41,7 +37,7 @@ fn utf8_as_the_standard_library_has_it() {
     assert!((0..=4).all(well_formed), "some size has no text to accept");
 }
 
-/// By `rust/test --release -- --ignored`: in a build for speed it takes a minute.
+/// By `rust/test --release -- --ignored`: in a build for speed it takes a minute or two.
 #[test]
 #[ignore = "2^32 texts"]
 fn every_text_of_up_to_four_bytes() {
@@ -51,6 +47,26 @@ fn every_text_of_up_to_four_bytes() {
             agrees(&text.to_be_bytes()[4 - size..]);
         }
     }
+}
+
+/// By the same command, in seconds. Texts break at every byte that one so long can.
+#[test]
+#[ignore = "ten million texts"]
+fn ten_million_longer_texts() {
+    let mut random = Random(4);
+    let mut broken_at = [0; LONGEST];
+    let mut well_formed = 0;
+    for _ in 0..10_000_000 {
+        let text = longer_text(&mut random);
+        agrees(&text);
+        match utf8(&text) {
+            Ok(()) => well_formed += 1,
+            Err(error) => broken_at[error.valid_up_to()] += 1,
+        }
+    }
+    let least = broken_at.iter().min().copied();
+    assert!(least > Some(1_000), "{broken_at:?}");
+    assert!(well_formed > 1_000_000, "{well_formed}");
 }
 
 #[test]
