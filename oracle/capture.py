@@ -110,6 +110,10 @@ class Avp:
         """Does tshark show U+FFFD where the text has none?"""
         return self.type in TEXT and self.field.get("show").count("\ufffd") > self.data.count("\ufffd".encode())
 
+    def broke_at(self):
+        """How many bytes the text takes that tshark shows before the first U+FFFD."""
+        return len(self.field.get("show").split("\ufffd")[0].encode())
+
     def part(self, name):
         """What tshark shows of a part of the value, or None."""
         found = [part.get("show") for part in self.field if part.get("name").endswith("." + name)]

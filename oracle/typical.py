@@ -50,9 +50,11 @@ TEXTS = (
     "", "a", "ab", "abc", "host.example.net;1876543210;523;mobile@200.1.1.88", 'He said "no" & <left>', "Grüße", "Ελλάδα", "日本語", "\U0001F600",
     "é", "\u0080x", "\u07ff", "\u0800", "\ud7ff", "\ue000", "\ufffd", "\U00010000", "\U0010ffff", "x" * 301,
 )
-# RFC 3629's ranges, just left
+# RFC 3629's ranges, just left, behind characters of each size
+FRONTS = ("ab", "", "é", "日本", "x\U0001F600")
 ILL_FORMED = [
-    b"ab" + bytes.fromhex(text) for text in "80 bf c0af c1bf c2 c241 e09fbf e0a0 e28228 eda080 edbfbf f08fbfbf f09080 f4908080 f5808080 fe ff".split()
+    FRONTS[at % len(FRONTS)].encode() + bytes.fromhex(text)
+    for at, text in enumerate("80 bf c0af c1bf c2 c241 e09fbf e0a0 e28228 eda080 edbfbf f08fbfbf f09080 f4908080 f5808080 fe ff".split())
 ]
 IDENTITIES = ("", "a", "h.example", "peer.example.com", "realm.example.org", "xn--bcher-kva.example")
 FILTER_RULES = (

@@ -100,6 +100,8 @@ def of_avp(record, avp, data, listed):
     yield "padding", record[19:23], bytes([len(avp.padding)]) + avp.padding.ljust(3, b"\0")
     yield "error flags", record[18], avp.errors
     yield "data", data, avp.data
+    if avp.ill_formed():
+        yield "where text broke", be(record[24:32]), avp.broke_at()
     kind = kind_shown(avp)
     if kind is None:
         listed["D3"] += 1
