@@ -15,6 +15,13 @@ static void save(const char *folder, const char *name, size_t length) {
     }
 }
 
+// 64 bytes each: letters, characters of all sizes, and those with the last one cut off.
+#define LETTERS "gateway-01.example.net;relay4.core.example.net;1876543210;523;ab"
+#define TENS_5 TEN TEN TEN TEN TEN
+#define TEN "a\xC3\xA9\xE2\x82\xAC\xF0\x9F\x98\x80"
+#define MIXED TENS_5 TEN "abcd"
+#define CUT_OFF TENS_5 TEN "abc\xE2"
+
 int main(int count, char **words) {
     if (count != 2) {
         fprintf(stderr, "usage: inputs FOLDER\n");
@@ -23,6 +30,9 @@ int main(int count, char **words) {
     save(words[1], "typical", message_typical(bytes));
     save(words[1], "session_first", message_session(bytes, 0));
     save(words[1], "session_last", message_session(bytes, 19));
+    save(words[1], "letters", message_texts(bytes, LETTERS, sizeof LETTERS - 1));
+    save(words[1], "mixed", message_texts(bytes, MIXED, sizeof MIXED - 1));
+    save(words[1], "cut_off", message_texts(bytes, CUT_OFF, sizeof CUT_OFF - 1));
     save(words[1], "small64k", message_small(bytes, 65536));
     save(words[1], "nested30", message_nested(bytes, 30));
     save(words[1], "small16m", message_small(bytes, MESSAGE_MOST));

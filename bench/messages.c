@@ -173,6 +173,13 @@ size_t message_credit(uint8_t *out) {
 
 // ---- the others
 
+size_t message_texts(uint8_t *out, const char *data, size_t length) {
+    static const uint32_t codes[] = {263, 264, 296, 1, 282, 293, 281, 269, 294, 25, 50, 280, 292, 235, 263, 1};
+    uint8_t *at = start_any(out);
+    for (size_t i = 0; i < sizeof codes / sizeof *codes; i++) at = text(at, codes[i], data, length);
+    return finish(out, at);
+}
+
 size_t message_small(uint8_t *out, size_t most) {
     uint8_t *at = start_any(out);
     for (size_t left = most - HEADER; left >= HEAD; left -= HEAD) at = head(at, 44, MANDATORY, HEAD);

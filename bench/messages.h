@@ -18,6 +18,9 @@ size_t message_session(uint8_t *out, size_t before);
 // some money for more.
 size_t message_credit(uint8_t *out);
 
+// One text in sixteen AVPs, whose codes are of all kinds of text.
+size_t message_texts(uint8_t *out, const char *data, size_t length);
+
 // Nothing but AVPs without data, as many as `most` bytes hold.
 size_t message_small(uint8_t *out, size_t most);
 
