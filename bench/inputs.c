@@ -17,10 +17,10 @@ static void save(const char *folder, const char *name, size_t length) {
 
 // 64 bytes each: letters, characters of all sizes, and those with the last one cut off.
 #define LETTERS "gateway-01.example.net;relay4.core.example.net;1876543210;523;ab"
-#define TENS_5 TEN TEN TEN TEN TEN
 #define TEN "a\xC3\xA9\xE2\x82\xAC\xF0\x9F\x98\x80"
-#define MIXED TENS_5 TEN "abcd"
-#define CUT_OFF TENS_5 TEN "abc\xE2"
+#define SIXTY TEN TEN TEN TEN TEN TEN
+#define MIXED SIXTY "abcd"
+#define CUT_OFF SIXTY "abc\xE2"
 
 int main(int count, char **words) {
     if (count != 2) {

@@ -9,7 +9,8 @@ use denote.Ref.{now}
 use Rattle.refusal.specs.Answer.{Refusal}
 use Rattle.refusal.proofs.Answers.{among}
 use Rattle.record.specs.Store.{room}
-use Rattle.rfc6733.specs.Dictionary.{Dictionary, rfc, sawp}
+use Rattle.rfc6733.specs.Value.{Value}
+use Rattle.rfc6733.specs.Dictionary.{Dictionary, familyAddress, bareAddress, rfc, sawp}
 use Rattle.rfc6733.specs.CreditControl.{rfc4006, rfc8506, isEdition, editionOf}
 use Rattle.rfc6733.specs.Decoder.{limitRefusals, decoded, avpAlone}
 use Rattle.rfc6733.specs.Editions.{editionRefusals}
@@ -104,15 +105,16 @@ lawful (reading Sawp) = sawp-lawful
 lawful (reading Rfc) = rfc-lawful
 lawful (edition n) = edition-lawful n
 
--- an Address that is read is a number of eight bytes at most, and one that is not has none
-pub address-small : (way : Way) (s : List ℕ) → Small s (dictionaryOf way .asAddress s)
+-- an Address is read in one of two ways
+by-address : (P : (List ℕ → Value) → Type 0) → P bareAddress → P familyAddress → (way : Way) → P (dictionaryOf way .asAddress)
 unfolding dictionary sawp rfc rfc4006 rfc8506
-address-small (reading Sawp) = bare-small
-address-small (reading Rfc) = family-small
-address-small (edition n) = each-edition (λ D. (s : List ℕ) → Small s (D .asAddress s)) family-small family-small family-small n
+by-address P bare family (reading Sawp) = bare
+by-address P bare family (reading Rfc) = family
+by-address P bare family (edition n) = each-edition (λ D. P (D .asAddress)) family family family n
+
+-- one that is read is a number of eight bytes at most, and one that is not has none
+pub address-small : (way : Way) (s : List ℕ) → Small s (dictionaryOf way .asAddress s)
+address-small = by-address (λ read. (s : List ℕ) → Small s (read s)) bare-small family-small
 
 pub address-silent : (way : Way) (s : List ℕ) → Silent (dictionaryOf way .asAddress s)
-unfolding dictionary sawp rfc rfc4006 rfc8506
-address-silent (reading Sawp) = bare-silent
-address-silent (reading Rfc) = family-silent
-address-silent (edition n) = each-edition (λ D. (s : List ℕ) → Silent (D .asAddress s)) family-silent family-silent family-silent n
+address-silent = by-address (λ read. (s : List ℕ) → Silent (read s)) bare-silent family-silent

@@ -2,7 +2,7 @@
 -- goes, and that is the longest prefix. Data of other kinds are of kind 0 only without a number: a kind that has one is not 0.
 use Prim.Native.Nat.{ℕ, _<_}
 use mathlib.Core.Path.{_≡_, refl}
-use mathlib.Core.Bool.{Bool, true, false, cond}
+use mathlib.Core.Bool.{true, false}
 use mathlib.Core.Logic.{inl, inr}
 use mathlib.Core.List.{List}
 use lib.ListN.{length}
@@ -20,6 +20,7 @@ use Rattle.rfc6733.specs.Value.{Value, value, fixed, text, kinds32, kind
 use Rattle.rfc6733.specs.Dictionary.{Dictionary, familyAddress, bareAddress}
 use Rattle.rfc6733.specs.Records.{errors, groupValue}
 use Rattle.rfc6733.proofs.Listed.{of-listed}
+use Rattle.rfc6733.proofs.Chosen.{either}
 
 -- a kind that is not 0
 abbrev Handled : ℕ → Type 0
@@ -50,10 +51,6 @@ of-text asAddress k s t = rw (read-as-text asAddress s k t) (text-breaks k s (of
 pub record Silent (v : Value) : Type 0 where
   pub zero : v .kind ≡ unhandled → v .number ≡ 0
 
-either : {v w : Value} (b : Bool) → Silent v → Silent w → Silent (cond b v w)
-either true hv hw = hv
-either false hv hw = hw
-
 no-number : (k e : ℕ) → Silent (value k e 0)
 no-number k e = record { zero = λ is. refl }
 
@@ -65,19 +62,19 @@ ipv4 e n = a-number address e n refl
 
 pub bare-silent : (s : List ℕ) → Silent (bareAddress s)
 unfolding bareAddress
-bare-silent s = search (either, no-number, ipv4) depth 9
+bare-silent s = search (either Silent, no-number, ipv4) depth 9
 
 pub family-silent : (s : List ℕ) → Silent (familyAddress s)
 unfolding familyAddress
-family-silent s = search (either, no-number, ipv4) depth 9
+family-silent s = search (either Silent, no-number, ipv4) depth 9
 
 pub group-silent : (D : Dictionary) (inner : Tree) → Silent (groupValue D inner)
 unfolding groupValue
-group-silent D inner = either (tiles inner) (no-number grouped (errors D inner)) (no-number unhandled dataValue)
+group-silent D inner = either Silent (tiles inner) (no-number grouped (errors D inner)) (no-number unhandled dataValue)
 
 fixed-silent : (w k : ℕ) (s : List ℕ) → Handled k → Silent (fixed w k s)
 unfolding fixed
-fixed-silent w k s handled = either (ltb (length s) w) (no-number unhandled dataLength) (a-number k (flag (ltb w (length s)) dataLength) (be w s 0) handled)
+fixed-silent w k s handled = either Silent (ltb (length s) w) (no-number unhandled dataLength) (a-number k (flag (ltb w (length s)) dataLength) (be w s 0) handled)
 
 pub of-others : (asAddress : List ℕ → Value) (k : ℕ) (s : List ℕ) → Silent (asAddress s) → oneOf k texts ≡ false → Silent (dataAs asAddress k s)
 unfolding dataAs
@@ -87,6 +84,6 @@ of-others asAddress k s at-address t =
       | inr e ↦
           elim (decide (oneOf k kinds64)) [
             | inl f ↦ rw (e, f) (fixed-silent 8 k s (of-listed Handled kinds64 (refl, (refl, (refl, tt))) k f))
-            | inr f ↦ rw (e, f, t) (either (eqb k address) at-address (no-number k 0))
+            | inr f ↦ rw (e, f, t) (either Silent (eqb k address) at-address (no-number k 0))
           ]
     ]

@@ -1,4 +1,5 @@
 pub mod Listed
+mod Chosen
 pub mod Complete
 pub mod Items
 pub mod Tiling

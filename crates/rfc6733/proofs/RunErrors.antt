@@ -1,7 +1,7 @@
 -- A run's error flags are below 16 in both readings and both editions: each flag is, and joining keeps it so. And what is read of bytes is a number
 -- of eight bytes at most, if their count is. For any dictionary this asks only that it is so of an Address.
 use Prim.Native.Nat.{ℕ, _^_, _≤_, _<_}
-use mathlib.Core.Bool.{Bool, true, false, cond, not}
+use mathlib.Core.Bool.{Bool, cond, not}
 use mathlib.Core.Logic.{inl, inr}
 use mathlib.Core.List.{List}
 use native.Mathlib.Nat.{pow-le-pow-right, zero-lt-suc}
@@ -20,6 +20,7 @@ use Rattle.record.specs.Kinds.{unhandled}
 use Rattle.rfc6733.specs.Dictionary.{Dictionary, familyAddress, bareAddress, rfc, sawp}
 use Rattle.rfc6733.specs.CreditControl.{rfc4006, rfc8506, editionOf}
 use Rattle.rfc6733.specs.Records.{avpKind, valueOf, ownErrors, errors}
+use Rattle.rfc6733.proofs.Chosen.{either}
 use Rattle.rfc6733.proofs.CreditControl.{each-edition}
 use Rattle.refusal.proofs.Tests.{decide}
 use Rattle.flags.proofs.Joins.{join-small, flag-small}
@@ -28,10 +29,6 @@ use Rattle.flags.proofs.Joins.{join-small, flag-small}
 pub record Small (s : List ℕ) (v : Value) : Type 0 where
   pub below : v .errors < 16
   pub fits : Bytes s → length s < 256 ^ 8 → v .number < 256 ^ 8
-
-either : {s : List ℕ} {v w : Value} (b : Bool) → Small s v → Small s w → Small s (cond b v w)
-either true hv hw = hv
-either false hv hw = hw
 
 pub own-small : (a : List ℕ) → ownErrors a < 16
 unfolding ownErrors
@@ -57,19 +54,19 @@ flagged s w k le b =
     let most = pow-le-pow-right {n = 256} (zero-lt-suc 255) le in
     record { below = flag-small b dataLength (omega arith); fits = λ bytes few. let l = be-small w s 0 bytes in omega arith }
 
-ruleset ways = (either, no-number, wrong-length, broken-text, four-bytes)
+ruleset ways = (no-number, wrong-length, broken-text, four-bytes)
 
 read-small : (asAddress : List ℕ → Value) (k : ℕ) (s : List ℕ) → Small s (asAddress s) → Small s (dataAs asAddress k s)
 unfolding dataAs fixed text
-read-small asAddress k s h = search (ways, flagged s 4 k (omega arith), flagged s 8 k (omega arith)) depth 9
+read-small asAddress k s h = search (either (Small s), ways, flagged s 4 k (omega arith), flagged s 8 k (omega arith)) depth 9
 
 pub bare-small : (s : List ℕ) → Small s (bareAddress s)
 unfolding bareAddress
-bare-small s = search ways depth 9
+bare-small s = search (either (Small s), ways) depth 9
 
 pub family-small : (s : List ℕ) → Small s (familyAddress s)
 unfolding familyAddress
-family-small s = search ways depth 9
+family-small s = search (either (Small s), ways) depth 9
 
 module _ (D : Dictionary) (address-small : (s : List ℕ) → Small s (D .asAddress s)) where
   pub value-small : (a : List ℕ) → Small (payload a) (valueOf D a)

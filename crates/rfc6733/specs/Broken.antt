@@ -1,4 +1,4 @@
--- What the value of a record of kind 0 says: where its text broke, and of all else nothing.
+-- What the value of a record of kind 0 says (docs/FORMAT.md, 4.4 and 6.2): where its text broke, and of all else nothing.
 use Prim.Native.Nat.{ℕ, _<_}
 use mathlib.Core.Path.{_≡_}
 use mathlib.Core.Bool.{true, false}
