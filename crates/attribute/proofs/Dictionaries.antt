@@ -1,17 +1,19 @@
 -- The kinds by code. A code that a table doesn't list is Unhandled, by induction over the table; the codes that it lists are one
 -- computation. So the sawp dictionary is the table of docs/FORMAT.md, 5.1, at every code, and the table of a reading with what is beside
 -- it is the reading's dictionary.
-use Prim.Native.Nat.{ℕ, max, _≤_, _<_}
+use Prim.Native.Nat.{ℕ, _≤_, _<_}
 use mathlib.Core.Path.{_≡_, refl, sym, ap, _∙_, fun-ext}
 use mathlib.Core.Bool.{Bool, true, false, not, cond, _||_}
-use mathlib.Core.List.{List, [], _∷_, _++_, map}
+use mathlib.Core.List.{List, [], _∷_, _++_}
 use native.Mathlib.Omega.{arith}
 use lib.ListN.{getD}
-use lib.Dec.{leb, ltb, eqb}
-use borrow.Author.Tests.{ne-eqb, ltb-false, le-leb}
-use Rattle.rfc6733.specs.Value.{Value, oneOf}
+use lib.Dec.{leb, eqb}
+use borrow.Author.Tests.{le-leb}
+use Rattle.rfc6733.specs.Value.{oneOf}
+use Rattle.record.specs.Value.{Value}
 use Rattle.record.specs.Kinds.{unhandled, time}
-use Rattle.rfc6733.specs.Dictionary.{Dictionary, Row, kindIn, baseAvps, sawpAvps, byRows, familyAddress, bareAddress, sawp, rfc}
+use Rattle.rfc6733.specs.Dictionary.{Dictionary, baseAvps, sawpAvps, byRows, familyAddress, bareAddress, sawp, rfc}
+use Rattle.record.specs.Rows.{Row, kindIn, table}
 use Rattle.rfc6733.proofs.Listed.{one-of-append, passed}
 use Rattle.attribute.specs.Attributes.{dictionary, kindTable}
 use Rattle.attribute.specs.ByTable.{known, kindBy, addressBy, dictionaryBy, besideTable}
@@ -19,13 +21,10 @@ use Rattle.attribute.specs.declared.Dictionary as declared
 use Rattle.attribute.specs.declared.Reading.{Reading}
 use Rattle.attribute.specs.declared.Reading.the-variants.{Sawp, Rfc}
 use Rattle.attribute.specs.Kinds.{Codes, kindsByCode, kindAmong}
-use Rattle.attribute.specs.Tables.{table}
-use Rattle.attribute.proofs.Tables.{table-at, same-by-list}
+use Rattle.attribute.proofs.Tables.{same-by-list}
+use Rattle.record.proofs.Rows.{codesIn, greatest, entry-of, greatestKind, kind-within}
 
 -- ---- off the codes of a table
-
-abbrev pub codesIn : List Row → List ℕ
-codesIn = map (λ r. r .code)
 
 abbrev codesAmong : List Codes → List ℕ
 codesAmong [] = []
@@ -39,24 +38,6 @@ off-codes : (rs : List Codes) (c : ℕ) → oneOf c (codesAmong rs) ≡ false �
 off-codes [] c h = refl
 off-codes (r ∷ rs) c h = passed (oneOf c (r .codes)) _ _ _ _ (rw one-of-append at h) (off-codes rs c)
 
--- ---- past the greatest code
-
-abbrev pub greatest : List ℕ → ℕ
-greatest [] = 0
-greatest (c ∷ cs) = max c (greatest cs)
-
-not-listed : (cs : List ℕ) (c : ℕ) → greatest cs < c → oneOf c cs ≡ false
-not-listed [] c h = refl
-not-listed (x ∷ cs) c h = rw (ne-eqb c x (λ e. omega arith)) (not-listed cs c (omega arith))
-
--- so the first n entries are the table, where n is past its codes
-entry-of : (rs : List Row) (n : ℕ) → greatest (codesIn rs) < n → (c : ℕ) → getD (table (kindIn rs) n) c unhandled ≡ kindIn rs c
-entry-of rs n within c = table-at (kindIn rs) n c unhandled ∙ by (ltb c n) refl
-  where
-    by : (b : Bool) → ltb c n ≡ b → cond b (kindIn rs c) unhandled ≡ kindIn rs c
-    by true t = refl
-    by false t = let past = ltb-false c n t in rw (off-rows rs c (not-listed (codesIn rs) c (omega arith)))
-
 -- ---- the readings beside one another, and beside the table of docs/FORMAT.md
 
 -- the table of docs/FORMAT.md is the sawp dictionary's
@@ -65,19 +46,6 @@ document-kinds c =
     let same = same-by-list (kindIn sawpAvps) (kindAmong kindsByCode) in
     same (codesIn sawpAvps) refl c
     (λ h. same (codesAmong kindsByCode) refl c (λ h'. off-rows sawpAvps c h ∙ sym (off-codes kindsByCode c h')))
-
--- ---- the greatest kind
-
-abbrev pub greatestKind : List Row → ℕ
-greatestKind rs = greatest (map (λ r. r .kind) rs)
-
-kind-within : (rs : List Row) (c : ℕ) → kindIn rs c ≤ greatestKind rs
-kind-within [] c = omega arith
-kind-within (r ∷ rs) c = by (eqb c (r .code)) (kind-within rs c)
-  where
-    by : (b : Bool) → kindIn rs c ≤ greatestKind rs → cond b (r .kind) (kindIn rs c) ≤ max (r .kind) (greatestKind rs)
-    by true h = omega arith
-    by false h = omega arith
 
 -- ---- a lent table
 

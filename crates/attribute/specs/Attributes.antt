@@ -4,7 +4,7 @@ use mathlib.Core.Bool.{cond}
 use mathlib.Core.List.{List, [], _∷_}
 use lib.Dec.{eqb}
 use Rattle.rfc6733.specs.Dictionary.{Dictionary, sawp, rfc}
-use Rattle.attribute.specs.Tables.{table}
+use Rattle.record.specs.Rows.{table}
 use Rattle.attribute.specs.declared.AttributeCode.{AttributeCode}
 use Rattle.attribute.specs.declared.AttributeCode.the-variants.{Unknown, AcctInterimInterval, AccountingRealtimeRequired, AcctMultiSessionId, AccountingRecordNumber, AccountingRecordType, AcctSessionId, AccountingSubSessionId, AcctApplicationId, AuthApplicationId, AuthRequestType, AuthorizationLifetime, AuthGracePeriod, AuthSessionState, ReAuthRequestType, Class, DestinationHost, DestinationRealm, DisconnectCause, ErrorMessage, ErrorReportingHost, EventTimestamp, ExperimentalResult, ExperimentalResultCode, FailedAVP, FirmwareRevision, HostIPAddress, InbandSecurityId, MultiRoundTimeOut, OriginHost, OriginRealm, OriginStateId, ProductName, ProxyHost, ProxyInfo, ProxyState, RedirectHost, RedirectHostUsage, RedirectMaxCacheTime, ResultCode, RouteRecord, SessionId, SessionTimeout, SessionBinding, SessionServerFailover, SupportedVendorId, TerminationCause, UserName, VendorId, VendorSpecificApplicationId}
 use Rattle.attribute.specs.declared.Attribute.{Attribute}

@@ -6,7 +6,7 @@ use mathlib.Core.List.{List}
 use lib.ListN.{getD}
 use lib.Dec.{leb, eqb}
 use Rattle.record.specs.Kinds.{unhandled, time}
-use Rattle.rfc6733.specs.Value.{Value}
+use Rattle.record.specs.Value.{Value}
 use Rattle.rfc6733.specs.Dictionary as rfc
 use Rattle.rfc6733.specs.Dictionary.{familyAddress, bareAddress}
 use Rattle.attribute.specs.declared.Dictionary.{Dictionary}

@@ -1,4 +1,3 @@
 pub mod Attributes
 pub mod ByTable
 pub mod Kinds
-pub mod Tables

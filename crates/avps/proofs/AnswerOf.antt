@@ -2,7 +2,7 @@
 -- fields, and a refusal is the answer's own.
 use mathlib.Core.Path.{_≡_, refl, sym, ap, _∙_}
 use Rattle.refusal.specs.Answer.{Answer, accepted, refused}
-use Rattle.rfc6733.specs.Decoder as definition
+use Rattle.record.specs.Counts as definition
 use Rattle.avps.specs.declared.Filled.{Filled}
 use Rattle.avps.specs.declared.Filled.the-variants.{Accepted, Refused}
 use Rattle.avps.specs.Answers.{countsAs, answerOf}

@@ -11,7 +11,8 @@ use Rattle.octets.specs.Run.{Tree, tree}
 use Rattle.refusal.specs.Answer.{answer}
 use Rattle.rfc6733.specs.Dictionary.{Dictionary}
 use Rattle.rfc6733.specs.Records.{avps, errors, recordCount}
-use Rattle.rfc6733.specs.Decoder.{allowed, limitRefusals, tileRefusals, depthRefusals, roomRefusals, fitRefusals, runRecords, runCounts, runRefusals}
+use Rattle.rfc6733.specs.Decoder.{allowed, limitRefusals, depthRefusals, fitRefusals, runRecords, runCounts, runRefusals}
+use Rattle.record.specs.Refusals.{tileRefusals, roomRefusals}
 use Rattle.record.specs.Store.{stored}
 use Rattle.refusal.proofs.Answers.{answer-first}
 use Rattle.rfc6733.proofs.Decoded.{limit-good, more-records, fits}

@@ -9,8 +9,8 @@ use lib.Dec.{eqb}
 use borrow.Author.Tests.{eqb-false}
 use Rattle.octets.specs.Run.{done, tree, tiles}
 use Rattle.octets.proofs.Lists.{over-none}
-use Rattle.rfc6733.specs.Value as rfc
-use Rattle.rfc6733.specs.Value.{value}
+use Rattle.record.specs.Value as values
+use Rattle.record.specs.Value.{value}
 use Rattle.record.specs.Kinds.{grouped}
 use Rattle.rfc6733.specs.Dictionary.{Dictionary}
 use Rattle.rfc6733.specs.Records.{avps, tiling, errors, groupValue}
@@ -35,9 +35,9 @@ record NoGroup (D : Dictionary) (code vendor : ℕ) (s : List ℕ) : Type 0 wher
   value-is : valueIn D code vendor s ≡ newValue (D .asAddress) (D .kind code vendor) s
 
 -- the kind of a value that is shown
-shown-kind : {v : rfc.Value} {s : List ℕ} {r : Read} → Shows v s r → v .kind ≡ kindOf (r .value)
+shown-kind : {v : values.Value} {s : List ℕ} {r : Read} → Shows v s r → v .kind ≡ kindOf (r .value)
 unfolding readAs
-shown-kind shown = ap (λ (v : rfc.Value). v .kind) (sym (shown .value))
+shown-kind shown = ap (λ (v : values.Value). v .kind) (sym (shown .value))
 
 module _ {D : Dictionary} {code vendor : ℕ} {s : List ℕ} {r : Read} (shown : Shows (newValue (D .asAddress) (D .kind code vendor) s) s r) where
   pub a-group : Kind Other (D .asAddress s) → kindOf (r .value) ≡ grouped → Group D code vendor s
@@ -65,9 +65,9 @@ module _ {D : Dictionary} {code vendor : ℕ} {s : List ℕ} {r : Read} (shown :
       let g = no-group other in
       let v : readAs r ≡ valueIn D code vendor s = shown .value ∙ sym (g .value-is) in
       record {
-        kind-is = ek ∙ ap (λ (x : rfc.Value). x .kind) v;
-        number-is = en ∙ ap (λ (x : rfc.Value). x .number) v;
-        errors-are = ap (λ (x : rfc.Value). x .errors) v;
+        kind-is = ek ∙ ap (λ (x : values.Value). x .kind) v;
+        number-is = en ∙ ap (λ (x : values.Value). x .number) v;
+        errors-are = ap (λ (x : values.Value). x .errors) v;
         count-is = rw (g .entered-is);
         store-is = rw (g .entered-is) (sym (over-none store));
       }
@@ -77,9 +77,9 @@ pub members-written : {D : Dictionary} {code vendor : ℕ} {s : List ℕ} {place
     → Members D code vendor s place depth (record { kind = k; number = 0; errors = r .errors; records = r .records }) before after
 members-written g ek one w =
     record {
-      kind-is = ek ∙ ap (λ (x : rfc.Value). x .kind) (sym (g .value-is));
-      number-is = ap (λ (x : rfc.Value). x .number) (sym (g .value-is));
-      errors-are = w .errors-are ∙ ap (λ (x : rfc.Value). x .errors) (sym (g .value-is));
+      kind-is = ek ∙ ap (λ (x : values.Value). x .kind) (sym (g .value-is));
+      number-is = ap (λ (x : values.Value). x .number) (sym (g .value-is));
+      errors-are = w .errors-are ∙ ap (λ (x : values.Value). x .errors) (sym (g .value-is));
       count-is = rw (g .entered-is) (w .count-is);
       store-is = rw (g .entered-is, ← one) (w .store-is);
     }

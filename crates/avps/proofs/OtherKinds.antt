@@ -5,7 +5,8 @@ use mathlib.Core.Path.{_≡_, refl}
 use mathlib.Core.Bool.{Bool, true, false, cond}
 use mathlib.Core.List.{List}
 use lib.Dec.{eqb}
-use Rattle.rfc6733.specs.Value.{Value, dataAs}
+use Rattle.rfc6733.specs.Value.{dataAs}
+use Rattle.record.specs.Value.{Value}
 use Rattle.record.specs.Kinds.{grouped}
 use Rattle.rfc6733.specs.Dictionary.{familyAddress, bareAddress}
 use Rattle.rfc6733.proofs.KindsRead.{Kind, kind-read, bare-kind, family-kind}

@@ -16,7 +16,7 @@ use Rattle.octets.proofs.Lists.{rest, over-before, lent}
 use Rattle.flags.specs.Flags.{flag, join, nonZeroReserved, nonZeroPadding}
 use Rattle.rfc6733.specs.Avp as avp
 use Rattle.rfc6733.specs.Avp.{headSize, avpReserved, payload, padding, dataSize, Exact}
-use Rattle.rfc6733.specs.Value.{Value}
+use Rattle.record.specs.Value.{Value}
 use Rattle.rfc6733.specs.Dictionary.{Dictionary}
 use Rattle.record.specs.Record.{Record, recordSize, recordBytes, laid}
 use Rattle.rfc6733.specs.Records.{ownErrors, recordOf, avps, records}

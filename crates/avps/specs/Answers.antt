@@ -7,7 +7,7 @@ use lib.Dec.{ltb}
 use Rattle.refusal.specs.Answer.{Answer, accepted, refused, refuse, answer}
 use Rattle.refusal.specs.declared.Refusal.the-variants.{TooLong}
 use Rattle.rfc6733.specs.Dictionary.{Dictionary}
-use Rattle.rfc6733.specs.Decoder as definition
+use Rattle.record.specs.Counts as definition
 use Rattle.rfc6733.specs.Decoder.{limitRefusals, runRefusals, runRecords, runCounts}
 use Rattle.record.specs.Store.{stored}
 use Rattle.avps.specs.declared.Counts.{Counts}

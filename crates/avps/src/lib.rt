@@ -9,7 +9,7 @@ use record::Record;
 use refusal::Refusal;
 ghost use mathlib.Core.Path.{_≡_};
 ghost use mathlib.Core.Bool.{true};
-ghost use lib.ListN.{length, replicate};
+ghost use lib.ListN.{length};
 ghost use Rattle.octets.specs.Run.{tree, tiles};
 ghost use Rattle.rfc6733.specs.Records.{avps};
 ghost use Rattle.rfc6733.specs.Avp.{mostDepth};
@@ -35,17 +35,6 @@ pub enum Filled {
 // A record has four bytes for a place.
 const LAST_PLACE: u32 = 0xffff_ffff;
 
-// Sets every byte to zero.
-fn clear(store: &mut [u8])
-    ensures { λ _. ⌜ now (store .exit) ≡ replicate (length (now (store .entry))) 0 ⌝ }
-{
-    let mut i: usize = 0;
-    while i < store.len() {
-        store[i] = 0;
-        i += 1;
-    }
-}
-
 // Fills the store with the records of the run `s`, which stands at `place`, and with zero after them. Answers their error flags.
 fn fill_store(d: Dictionary, kinds: &[u8], s: &[u8], place: usize, store: &mut [u8]) -> u8
     requires { ⌜ tiles (tree (avps (dictionaryBy d (now kinds))) (now s)) ≡ true ⌝ }
@@ -54,7 +43,7 @@ fn fill_store(d: Dictionary, kinds: &[u8], s: &[u8], place: usize, store: &mut [
 {
     let ran = fill::read_run(d, kinds, s, place, AVP::MOST_DEPTH, store);
     let n = ran.records;
-    clear(&mut store[n * Record::SIZE..]);
+    record::clear(&mut store[n * Record::SIZE..]);
     ran.errors
 }
 

@@ -7,7 +7,8 @@ use lib.Dec.{ltb}
 use borrow.Author.Tests.{lt-ltb, le-ltb}
 use Rattle.octets.specs.Run.{Tree, tiles, tried, deepest}
 use Rattle.rfc6733.specs.Records.{recordCount}
-use Rattle.rfc6733.specs.Decoder.{allowed, limitRefusals, tileRefusals, depthRefusals}
+use Rattle.rfc6733.specs.Decoder.{allowed, limitRefusals, depthRefusals}
+use Rattle.record.specs.Refusals.{tileRefusals}
 use Rattle.refusal.proofs.Answers.{and-true, kept-not, kept-lt, passed}
 use Rattle.refusal.specs.declared.Refusal.the-variants.{NotTiled, TooDeep, BadDepth}
 use Rattle.count.specs.declared.Counted.the-variants.{Fits, Refused}

@@ -6,7 +6,8 @@ use lib.Dec.{ltb}
 use Rattle.octets.specs.Run.{Tree, tiles, tried, deepest}
 use Rattle.refusal.specs.Answer.{Answer, accepted, refused, answer}
 use Rattle.rfc6733.specs.Records.{recordCount}
-use Rattle.rfc6733.specs.Decoder.{limitRefusals, tileRefusals, depthRefusals}
+use Rattle.rfc6733.specs.Decoder.{limitRefusals, depthRefusals}
+use Rattle.record.specs.Refusals.{tileRefusals}
 use Rattle.count.specs.declared.Level.{Level}
 use Rattle.count.specs.declared.Level.the-variants.{TooDeep, Within}
 use Rattle.count.specs.declared.Counted.{Counted}

@@ -5,7 +5,7 @@ use mathlib.Core.List.{List}
 use lib.Dec.{eqb}
 use Rattle.rfc6733.specs.Dictionary.{Dictionary}
 use Rattle.rfc6733.specs.CreditControl.{rfc4006, rfc8506}
-use Rattle.attribute.specs.Tables.{table}
+use Rattle.record.specs.Rows.{table}
 use Rattle.editions.specs.declared.Edition.{Edition}
 use Rattle.editions.specs.declared.Edition.the-variants.{Rfc4006, Rfc8506}
 use Rattle.editions.specs.declared.Chosen.{Chosen}

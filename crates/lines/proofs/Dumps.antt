@@ -18,11 +18,13 @@ use Rattle.rfc6733.specs.Header.{messageLength}
 use Rattle.rfc6733.specs.Dictionary.{sawp}
 use Rattle.record.specs.Record.{Record, recordSize, laid}
 use Rattle.record.specs.Table.{wholeRecords}
-use Rattle.rfc6733.specs.Decoder.{Counts, Message, runCounts, messageRecords, messageOf, decoded}
+use Rattle.rfc6733.specs.Decoder.{Message, runCounts, messageRecords, messageOf, decoded}
+use Rattle.record.specs.Counts.{Counts}
 use Rattle.rfc6733.specs.Dump.{recordLines, firstLine, line, linesText, dump, dumpText, dumped, refusalText}
 use Rattle.rfc6733.proofs.Accepted.{when-accepted}
 use Rattle.record.proofs.Layouts.{laid-length}
-use Rattle.round_trip.proofs.Whole.{Whole, records-back, sawp-whole}
+use Rattle.round_trip.proofs.Whole.{sawp-whole}
+use Rattle.record.proofs.Back.{Whole, records-back}
 use Rattle.lines.specs.Text.{recordsText, messageText}
 use Rattle.lines.proofs.Sizes.{records-short, first-short, refusal-short}
 

@@ -5,13 +5,12 @@ use native.Mathlib.Omega.{arith}
 use lib.ListN.{length, length-append}
 use Rattle.octets.proofs.Layouts.{fit-at}
 use Rattle.record.specs.Record.{Record, recordLayout}
-use Rattle.rfc6733.specs.Decoder.{Counts}
-use Rattle.record.specs.Table.{bare, Every}
+use Rattle.record.specs.Counts.{Counts}
+use Rattle.record.specs.Table.{bare, Every, Fits, AllFit}
 use Rattle.refusal.specs.Answer.{Refusal}
 use Rattle.refusal.specs.Refusals.{numberOf, amountOf}
 use Rattle.rfc6733.specs.Dump.{recordLine, recordLines, firstLine, line, linesText, refusalText}
-use Rattle.round_trip.specs.Tables.{Fits, AllFit}
-use Rattle.round_trip.proofs.Whole.{Valued}
+use Rattle.record.proofs.Back.{Valued}
 use Rattle.lines.proofs.Decimals.{decimal-short, decimal-most}
 
 record-short : (r : Record) → Fits r → Valued r → length (line (recordLine r)) ≤ 64

@@ -4,7 +4,7 @@ use mathlib.Core.List.{List, _++_}
 use lib.ListN.{length}
 use Rattle.record.specs.Record.{recordSize}
 use Rattle.record.specs.Table.{wholeRecords}
-use Rattle.rfc6733.specs.Decoder.{Counts}
+use Rattle.record.specs.Counts.{Counts}
 use Rattle.rfc6733.specs.Dump.{recordLines, firstLine, line, linesText}
 
 -- the lines of the first n records of a table, and those of a message with its own first

@@ -3,3 +3,4 @@ pub mod Lists
 pub mod Numbers
 pub mod Runs
 pub mod Availability
+pub mod Held

@@ -2,7 +2,7 @@
 -- left after it is shorter; its payload is shorter too. Any count from the length on therefore gives the same tree.
 use Prim.Native.Nat.{ℕ, zero, suc, _-_, _≤_, _<_}
 use mathlib.Core.Path.{_≡_, refl, ap, ap₂, _∙_}
-use mathlib.Core.Bool.{Bool, true, false}
+use mathlib.Core.Bool.{Bool, true, false, cond}
 use mathlib.Core.List.{List, [], _∷_, _++_}
 use native.Mathlib.Omega.{arith}
 use lib.ListN.{length, length-take, length-drop, take-append-drop}
@@ -100,6 +100,26 @@ module _ (F : Format) (ok : Sound F) (s : List ℕ) where
   pub tree-group : F .complete s ≡ true → F .nested (item F s) ≡ true
       → tree F s ≡ group (item F s) (tree F (F .payload (item F s))) (tree F (after F s))
   tree-group e n = let p = parts F ok s e in rw (tree-step F ok s (omega arith), e, n)
+
+-- ---- whether a run tiles, step by step
+
+-- a node tiles where its item is complete and what follows tiles
+pub tiles-node : (c b : Bool) (a : List ℕ) (i r : Tree) → tiles (node c b a i r) ≡ cond c (tiles r) false
+tiles-node false b a i r = refl
+tiles-node true true a i r = refl
+tiles-node true false a i r = refl
+
+pub tiles-none : (F : Format) → tiles (tree F []) ≡ true
+tiles-none F = ap tiles (tree-none F)
+
+module _ (F : Format) (ok : Sound F) (s : List ℕ) where
+  pub tiles-broken : 0 < length s → F .complete s ≡ false → tiles (tree F s) ≡ false
+  tiles-broken pos e = ap tiles (tree-broken F ok s pos e)
+
+  pub tiles-more : F .complete s ≡ true → tiles (tree F s) ≡ tiles (tree F (after F s))
+  tiles-more e =
+      let p = parts F ok s e in
+      rw (tree-step F ok s (omega arith), tiles-node, e)
 
 -- ---- a run that tiles is its items, one after the other
 

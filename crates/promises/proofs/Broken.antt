@@ -19,17 +19,17 @@ use Rattle.rfc3629.specs.declared.Utf8.the-variants.{WellFormed, ValidUpTo}
 use Rattle.rfc3629.proofs.Grammar.{well-formed-is}
 use Rattle.rfc3629.proofs.Prefixes.{longest, one-longest, broke-before-end}
 use Rattle.rfc3629.proofs.Answers.{says}
-use Rattle.record.specs.Record.{laid}
 use Rattle.record.specs.Table.{wholeRecords, Every}
 use Rattle.record.specs.Store.{stored}
 use Rattle.rfc6733.specs.Header.{headerSize, messageLength}
 use Rattle.rfc6733.specs.Avp.{avpSize}
-use Rattle.rfc6733.specs.Decoder as definition
+use Rattle.record.specs.Counts as definition
 use Rattle.rfc6733.specs.Decoder.{runRecords, runCounts, messageBody, messageRecords, aloneRecords, aloneOf}
 use Rattle.rfc6733.specs.Broken.{TellsBreak}
 use Rattle.rfc6733.proofs.Accepted.{when-alone}
-use Rattle.round_trip.proofs.Packed.{holds-here}
-use Rattle.round_trip.proofs.Whole.{every-back, whole, alone-whole}
+use Rattle.octets.proofs.Held.{holds-here}
+use Rattle.round_trip.proofs.Whole.{whole, alone-whole}
+use Rattle.record.proofs.Back.{every-back}
 use Rattle.round_trip.proofs.Breaks.{every-tells}
 use Rattle.avps.specs.declared.Counts.{Counts}
 use Rattle.avps.specs.declared.Filled.the-variants as filled

@@ -32,7 +32,7 @@ use Rattle.rfc6733.proofs.FirstRecord.{FirstRecord, first-record}
 use Rattle.rfc6733.proofs.Sought.{sought-accepted, beforeFailing, sought-failing, sought-refused}
 use Rattle.record.proofs.Layouts.{record-length, laid-length, laid-append}
 use Rattle.record.proofs.Outlines.{outline-bytes}
-use Rattle.round_trip.proofs.Tables.{laid-read}
+use Rattle.record.proofs.Tables.{laid-read}
 use Rattle.round_trip.proofs.RoundTrip.{records-fit}
 use Rattle.diameter.specs.declared.Message.{Message}
 use Rattle.diameter.specs.declared.Decoded.{Decoded}

@@ -13,7 +13,7 @@ use Rattle.attribute.specs.declared.Dictionary.{Dictionary}
 use Rattle.record.specs.Record.{Record}
 use Rattle.reader.specs.declared.Reader.{Reader}
 use Rattle.writer.specs.declared.Fields.{Fields}
-use Rattle.promises.proofs.OneOutcome.Calls.{Slice, RecordPut, ParseAvps, Parse, ParseAvp, ParseBy, ParseAvpBy, Dump, Write, TandrekilyMessage, TandrekilyHeader, TandrekilyAvp, TandrekilyMessageBy, TandrekilyAvpBy, TandrekilyFind, TandrekilyNext, TandrekilyWrite, TandrekilyCompare}
+use Rattle.promises.proofs.OneOutcome.Calls.{Slice, RecordPut, Clear, ParseAvps, Parse, ParseAvp, ParseBy, ParseAvpBy, Dump, Write, TandrekilyMessage, TandrekilyHeader, TandrekilyAvp, TandrekilyMessageBy, TandrekilyAvpBy, TandrekilyFind, TandrekilyNext, TandrekilyWrite, TandrekilyCompare}
 use Rattle.promises.proofs.OneOutcome.ByHand.{ReaderNew, ReaderNext, ReaderFind}
 use Rattle.octets.proofs.be_u16.Reads as be-u16
 use Rattle.octets.proofs.be_u24.Reads as be-u24
@@ -294,6 +294,9 @@ find-one κs a r r′ s p q = reader-answers.answer-of-injective r r′ (p ∙ s
 
 record-put-one : (κs : Lfts 1) (self : Record) (store : Slice) → Settled (RecordPut κs self store)
 record-put-one κs self store r r′ after after′ p q = (p .0 ∙ sym (q .0), p .1 ∙ sym (q .1))
+
+clear-one : (κs : Lfts 1) (store after after′ : Slice) → Clear κs store after → Clear κs store after′ → now after ≡ now after′
+clear-one κs store after after′ p q = p ∙ sym q
 
 record-get-one : Single record-get.Post
 record-get-one κs a r r′ s p q = p ∙ sym q

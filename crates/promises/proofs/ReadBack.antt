@@ -15,12 +15,12 @@ use Rattle.octets.specs.Run.{Tree, tree, tiles, deepest}
 use Rattle.refusal.specs.Answer.{accepted, passes}
 use Rattle.rfc6733.specs.Header.{messageLength, headerRefusals}
 use Rattle.rfc6733.specs.Dictionary.{Dictionary}
-use Rattle.record.specs.Store.{capacity}
+use Rattle.record.specs.Store.{capacity, output}
 use Rattle.rfc6733.specs.Decoder.{allowed, messageBody, messageRecords, messageRefusals, messageOf, decoded}
 use Rattle.rfc6733.specs.Records.{avps}
 use Rattle.record.specs.Forest.{forest}
 use Rattle.record.specs.Table.{tableOf, ofDepth}
-use Rattle.rfc6733.specs.Writer.{tableBytes, output}
+use Rattle.rfc6733.specs.Writer.{tableBytes}
 use Rattle.refusal.proofs.Answers.{accepts, passes-append}
 use Rattle.round_trip.specs.Tops.{tops, topRecords, roots}
 use Rattle.round_trip.proofs.Written.{written-writable}

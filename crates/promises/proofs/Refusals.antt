@@ -11,9 +11,9 @@ use lib.IntN.{ℤ}
 use denote.Ref.{RefT, now}
 use Rattle.refusal.specs.Answer.{Refusal, Answer, accepted, refused}
 use Rattle.record.specs.Record.{Record}
-use Rattle.rfc6733.specs.Decoder.{Counts, Message}
-use Rattle.record.specs.Store.{stored}
-use Rattle.rfc6733.specs.Writer.{output}
+use Rattle.rfc6733.specs.Decoder.{Message}
+use Rattle.record.specs.Counts.{Counts}
+use Rattle.record.specs.Store.{stored, output}
 use Rattle.attribute.specs.declared.Reading.{Reading}
 use Rattle.avps.specs.declared.Filled.the-variants as avps
 use Rattle.avps.specs.Answers as avps-answers

@@ -16,8 +16,8 @@ use Rattle.rfc6733.specs.Dictionary.{Dictionary}
 use Rattle.record.specs.Record.{recordSize, laid}
 use Rattle.rfc6733.specs.Decoder as definition
 use Rattle.rfc6733.specs.Decoder.{runCounts, decoded, messageRecords, messageOf}
-use Rattle.record.specs.Store.{stored}
-use Rattle.rfc6733.specs.Writer.{tableBytes, output}
+use Rattle.record.specs.Store.{stored, output}
+use Rattle.rfc6733.specs.Writer.{tableBytes}
 use Rattle.rfc6733.proofs.Accepted.{when-accepted}
 use Rattle.record.proofs.Layouts.{laid-length}
 use Rattle.round_trip.specs.Trip.{fieldsOf}

@@ -9,14 +9,15 @@ use denote.Ref.{now}
 use Rattle.refusal.specs.Answer.{Refusal}
 use Rattle.refusal.proofs.Answers.{among}
 use Rattle.record.specs.Store.{room}
-use Rattle.rfc6733.specs.Value.{Value}
+use Rattle.record.specs.Value.{Value}
 use Rattle.rfc6733.specs.Dictionary.{Dictionary, familyAddress, bareAddress, rfc, sawp}
 use Rattle.rfc6733.specs.CreditControl.{rfc4006, rfc8506, isEdition, editionOf}
 use Rattle.rfc6733.specs.Decoder.{limitRefusals, decoded, avpAlone}
 use Rattle.rfc6733.specs.Editions.{editionRefusals}
 use Rattle.rfc6733.proofs.CreditControl.{each-edition}
 use Rattle.rfc6733.proofs.RunErrors.{Small, bare-small, family-small}
-use Rattle.rfc6733.proofs.Breaks.{Silent, bare-silent, family-silent}
+use Rattle.rfc6733.proofs.Breaks.{bare-silent, family-silent}
+use Rattle.record.proofs.Breaks.{Silent}
 use Rattle.rfc6733.proofs.Editions.{message-by, accepted-by, refused-by, alone-by, alone-accepted-by}
 use Rattle.round_trip.specs.Trip.{Lawful}
 use Rattle.round_trip.proofs.LeafKinds.{sawp-lawful, rfc-lawful, edition-lawful}

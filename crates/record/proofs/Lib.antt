@@ -7,3 +7,10 @@ pub mod LastFirst
 pub mod Room
 pub mod Turned
 pub mod Whole
+pub mod Rows
+pub mod Tables
+pub mod Cleared
+pub mod Chosen
+pub mod Breaks
+pub mod Back
+pub mod Steps

@@ -1,6 +1,11 @@
 pub mod Kinds
+pub mod Value
+pub mod Rows
 pub mod Record
 pub mod Outline
 pub mod Table
 pub mod Forest
+pub mod Counts
+pub mod Refusals
 pub mod Store
+pub mod Broken

@@ -1,4 +1,5 @@
--- A store that is lent for records: how many it has room for, and what it holds after an answer (docs/FORMAT.md, 6.3).
+-- A store that is lent for records: how many it has room for, and what it holds after an answer (docs/FORMAT.md, 6.3). And an output that
+-- is lent for bytes (8.1).
 use Prim.Native.Nat.{ℕ, _-_, _/_}
 use mathlib.Core.Bool.{cond}
 use mathlib.Core.List.{List, _++_}
@@ -24,3 +25,8 @@ put r store = cond (leb recordSize (length store)) (over (recordBytes r) store) 
 unfoldable pub stored : {A : Type 0} → Answer A → List Record → List ℕ → List ℕ
 stored (accepted x) rs store = laid rs ++ replicate (length store - length (laid rs)) 0
 stored (refused why) rs store = store
+
+-- the output afterwards: past what was written, and where it was refused, as lent
+unfoldable pub output : Answer ℕ → List ℕ → List ℕ → List ℕ
+output (accepted total) bytes out = over bytes out
+output (refused why) bytes out = out

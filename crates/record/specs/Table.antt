@@ -1,10 +1,13 @@
 -- A table of records: as the writers take it, and whole.
-use Prim.Native.Nat.{ℕ, zero, suc, _/_}
-use mathlib.Core.Bool.{cond}
+use Prim.Native.Nat.{ℕ, zero, suc, _/_, _%_}
+use mathlib.Core.Bool.{Bool, true, cond, not, _&&_, _||_}
 use mathlib.Core.List.{List, [], _∷_}
 use lib.ListN.{length, drop}
-use lib.Dec.{eqb}
-use Rattle.record.specs.Record.{Record, recordSize, recordAt}
+use lib.Dec.{eqb, ltb}
+use Rattle.octets.specs.Octets.{Fit}
+use Rattle.refusal.specs.Answer.{Test, refuse}
+use Rattle.refusal.specs.declared.Refusal.the-variants.{BadTable}
+use Rattle.record.specs.Record.{Record, recordLayout, recordSize, recordAt}
 
 -- a record with other error flags and another value
 abbrev pub withBoth : Record → ℕ → ℕ → Record
@@ -53,3 +56,22 @@ Every P (r ∷ rs) = P r × Every P rs
 abbrev pub ofDepth : ℕ → List Record → List Record
 ofDepth d [] = []
 ofDepth d (r ∷ rs) = cond (eqb (r .depth) d) (r ∷ ofDepth d rs) (ofDepth d rs)
+
+-- ---- the writers' rules
+
+abbrev pub all : List Bool → Bool
+all [] = true
+all (b ∷ bs) = b && all bs
+
+-- so many of its records keep the rules before the first that breaks one; a table is refused where that is not all, or where bytes are over
+abbrev pub badTable : ℕ → List ℕ → Test
+badTable kept table = refuse (ltb kept (length table / recordSize) || not (eqb (length table % recordSize) 0)) (BadTable kept)
+
+-- ---- in bytes
+
+-- the numbers that a writer takes of a record fit their widths
+abbrev pub Fits : Record → Type 0
+Fits r = Fit (recordLayout .sizes) (recordLayout .numbers (bare r))
+
+abbrev pub AllFit : List Record → Type 0
+AllFit = Every Fits

@@ -97,6 +97,17 @@ fn put_u24_u8(store: &mut [u8], at: usize, high: u32, low: u8)
     put_u32(store, at, high % 0x100_0000 * 0x100 + low as u32);
 }
 
+/// Sets every byte to zero.
+pub fn clear(store: &mut [u8])
+    ensures { λ _. ⌜ now (store .exit) ≡ replicate (length (now (store .entry))) 0 ⌝ }
+{
+    let mut i: usize = 0;
+    while i < store.len() {
+        store[i] = 0;
+        i += 1;
+    }
+}
+
 impl Record {
     pub const SIZE: usize = 32;
 

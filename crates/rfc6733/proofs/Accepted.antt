@@ -11,7 +11,8 @@ use Rattle.rfc6733.specs.Header.{messageLength, headerRefusals}
 use Rattle.rfc6733.specs.Avp.{complete, mostDepth}
 use Rattle.rfc6733.specs.Dictionary.{Dictionary}
 use Rattle.rfc6733.specs.Records.{avps}
-use Rattle.rfc6733.specs.Decoder.{Counts, Message, messageBody, messageRecords, messageRefusals, messageOf, decoded, aloneRefusals, aloneOf, avpAlone}
+use Rattle.rfc6733.specs.Decoder.{Message, messageBody, messageRecords, messageRefusals, messageOf, decoded, aloneRefusals, aloneOf, avpAlone}
+use Rattle.record.specs.Counts.{Counts}
 use Rattle.refusal.proofs.Answers.{passes-append, passed}
 use Rattle.refusal.proofs.Tests.{eq-is, tests}
 use Rattle.rfc6733.proofs.Decoded.{allowed-most}

@@ -21,7 +21,7 @@ use Rattle.rfc6733.proofs.Items.{sound, item-same, item-length, item-wh
 use native.Mathlib.Nat.{add-zero}
 use lib.Dec.{eqb}
 use Rattle.rfc6733.specs.Avp.{code, flags, headSize, vendor, avpSize, payload, complete, Exact}
-use Rattle.rfc6733.specs.Value.{Value}
+use Rattle.record.specs.Value.{Value}
 use Rattle.record.specs.Kinds.{grouped}
 use Rattle.rfc6733.specs.Entered.{valueIn, entered}
 use Rattle.rfc6733.proofs.Tiling.{tiles-any}

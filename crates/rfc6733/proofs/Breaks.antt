@@ -7,24 +7,19 @@ use mathlib.Core.Logic.{inl, inr}
 use mathlib.Core.List.{List}
 use lib.ListN.{length}
 use lib.Dec.{ltb, eqb}
-use borrow.Author.Tests.{eqb-false}
 use Rattle.octets.specs.Octets.{be}
 use Rattle.octets.specs.Run.{Tree, tiles}
 use Rattle.rfc3629.specs.Prefix.{LongestPrefix}
-use Rattle.rfc3629.specs.Utf8.{wellFormed}
-use Rattle.rfc3629.proofs.Prefixes.{longest, broke-before-end}
 use Rattle.refusal.proofs.Tests.{decide}
 use Rattle.flags.specs.Flags.{dataValue, dataLength, flag}
 use Rattle.record.specs.Kinds.{unhandled, grouped, address}
-use Rattle.rfc6733.specs.Value.{Value, value, fixed, text, kinds32, kinds64, texts, oneOf, dataAs}
+use Rattle.rfc6733.specs.Value.{fixed, kinds32, kinds64, texts, oneOf, dataAs}
+use Rattle.record.specs.Value.{Value, value, text}
 use Rattle.rfc6733.specs.Dictionary.{Dictionary, familyAddress, bareAddress}
 use Rattle.rfc6733.specs.Records.{errors, groupValue}
 use Rattle.rfc6733.proofs.Listed.{of-listed}
-use Rattle.rfc6733.proofs.Chosen.{either}
-
--- a kind that is not 0
-abbrev Handled : ℕ → Type 0
-Handled k = eqb k unhandled ≡ false
+use Rattle.record.proofs.Chosen.{either}
+use Rattle.record.proofs.Breaks.{Handled, text-breaks, Silent, no-number, a-number}
 
 -- ---- text
 
@@ -32,30 +27,11 @@ read-as-text : (asAddress : List ℕ → Value) (s : List ℕ) (k : ℕ) → one
 unfolding dataAs
 read-as-text asAddress s = of-listed (λ k. dataAs asAddress k s ≡ text k s) texts (refl, (refl, (refl, tt)))
 
-text-breaks : (k : ℕ) (s : List ℕ) → Handled k → text k s .kind ≡ unhandled
-    → (text k s .number < length s) × LongestPrefix s (text k s .number)
-unfolding text
-text-breaks k s handled is =
-    elim (decide (wellFormed s)) [
-      | inl e ↦ absurd (eqb-false k unhandled handled (rw e at is))
-      | inr e ↦ rw e (broke-before-end s e, longest s)
-    ]
-
 pub of-text : (asAddress : List ℕ → Value) (k : ℕ) (s : List ℕ) → oneOf k texts ≡ true → dataAs asAddress k s .kind ≡ unhandled
     → (dataAs asAddress k s .number < length s) × LongestPrefix s (dataAs asAddress k s .number)
 of-text asAddress k s t = rw (read-as-text asAddress s k t) (text-breaks k s (of-listed Handled texts (refl, (refl, (refl, tt))) k t))
 
 -- ---- all else
-
--- a value of kind 0 has no number
-pub record Silent (v : Value) : Type 0 where
-  pub zero : v .kind ≡ unhandled → v .number ≡ 0
-
-no-number : (k e : ℕ) → Silent (value k e 0)
-no-number k e = record { zero = λ is. refl }
-
-a-number : (k e n : ℕ) → Handled k → Silent (value k e n)
-a-number k e n handled = record { zero = λ is. absurd (eqb-false k unhandled handled is) }
 
 ipv4 : (e n : ℕ) → Silent (value address e n)
 ipv4 e n = a-number address e n refl

@@ -5,7 +5,8 @@ use mathlib.Core.Path.{_≡_, refl}
 use mathlib.Core.Bool.{Bool, true, false, cond}
 use mathlib.Core.List.{List, _++_, map}
 use lib.Dec.{eqb}
-use Rattle.rfc6733.specs.Dictionary.{Dictionary, Row, kindIn, baseAvps, rfc}
+use Rattle.rfc6733.specs.Dictionary.{Dictionary, baseAvps, rfc}
+use Rattle.record.specs.Rows.{Row, kindIn}
 use Rattle.rfc6733.specs.CreditControl.{avps4006, avps8506, rfc4006, rfc8506, editionOf}
 
 -- each row of a table has its kind in another

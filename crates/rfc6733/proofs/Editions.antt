@@ -12,7 +12,8 @@ use Rattle.refusal.proofs.Tests.{decide}
 use Rattle.rfc6733.specs.Header.{headerRefusals}
 use Rattle.rfc6733.specs.Avp.{avpRefusals}
 use Rattle.rfc6733.specs.CreditControl.{isEdition, editionOf}
-use Rattle.rfc6733.specs.Decoder.{Counts, Message, allowed, limitRefusals, bytesRefusals, messageRefusals, messageOf, decoded, aloneBytesRefusals, aloneRefusals, aloneOf, avpAlone}
+use Rattle.rfc6733.specs.Decoder.{Message, allowed, limitRefusals, bytesRefusals, messageRefusals, messageOf, decoded, aloneBytesRefusals, aloneRefusals, aloneOf, avpAlone}
+use Rattle.record.specs.Counts.{Counts}
 use Rattle.rfc6733.specs.Editions.{editionRefusals, decodedBy, avpAloneBy}
 
 -- ---- the test of the edition, whatever is refused after it

@@ -2,10 +2,11 @@
 -- always one of these three. So a law of kinds is shown of three numbers, and not of each way to read.
 use Prim.Native.Nat.{ℕ}
 use mathlib.Core.List.{List}
-use Rattle.rfc6733.specs.Value.{Value, fixed, text, dataAs}
+use Rattle.rfc6733.specs.Value.{fixed, dataAs}
+use Rattle.record.specs.Value.{Value, text}
 use Rattle.record.specs.Kinds.{unhandled, address}
 use Rattle.rfc6733.specs.Dictionary.{familyAddress, bareAddress}
-use Rattle.rfc6733.proofs.Chosen.{either}
+use Rattle.record.proofs.Chosen.{either}
 
 -- P holds of the kind of v
 pub record Kind (P : ℕ → Type 0) (v : Value) : Type 0 where

@@ -1,5 +1,4 @@
 pub mod Listed
-mod Chosen
 pub mod Complete
 pub mod Items
 pub mod Tiling

@@ -7,7 +7,8 @@ use Rattle.rfc3629.specs.Utf8.{charSize, wellFormed}
 use Rattle.flags.specs.Flags.{bit, join}
 use Rattle.rfc6733.specs.Header.{headerOf, headerErrors, headerRefusals}
 use Rattle.rfc6733.specs.Avp.{headSize, vendor, dataSize, padding, avpSize, payload, pads, avpRefusals, complete}
-use Rattle.rfc6733.specs.Value.{fixed, text, dataAs}
+use Rattle.rfc6733.specs.Value.{fixed, dataAs}
+use Rattle.record.specs.Value.{text}
 use Rattle.rfc6733.specs.Dictionary.{Dictionary, familyAddress, bareAddress, rfc, sawp}
 use Rattle.rfc6733.specs.CreditControl.{rfc4006, rfc8506}
 use Rattle.rfc6733.specs.Records.{avpKind, valueOf, ownErrors, recordOf, groupValue}

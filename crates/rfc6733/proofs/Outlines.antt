@@ -17,7 +17,7 @@ use Rattle.record.specs.Outline.{outlineOf}
 use Rattle.record.specs.Table.{ofDepth}
 use Rattle.rfc6733.specs.Avp as avp
 use Rattle.rfc6733.specs.Avp.{complete, avpSize}
-use Rattle.rfc6733.specs.Value.{Value}
+use Rattle.record.specs.Value.{Value}
 use Rattle.rfc6733.specs.Dictionary.{Dictionary}
 use Rattle.rfc6733.specs.Records.{avps, unentered, valueOf, groupValue, recordOf, records}
 use Rattle.rfc6733.specs.Search.{outline, outlines}

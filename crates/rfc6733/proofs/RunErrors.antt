@@ -15,12 +15,13 @@ use Rattle.rfc3629.specs.Utf8.{validUpTo}
 use Rattle.rfc3629.proofs.Prefixes.{longest}
 use Rattle.flags.specs.Flags.{dataValue, dataLength, flag}
 use Rattle.rfc6733.specs.Avp.{flags, avpReserved, payload, pads}
-use Rattle.rfc6733.specs.Value.{Value, value, fixed, text, dataAs}
+use Rattle.rfc6733.specs.Value.{fixed, dataAs}
+use Rattle.record.specs.Value.{Value, value, text}
 use Rattle.record.specs.Kinds.{unhandled}
 use Rattle.rfc6733.specs.Dictionary.{Dictionary, familyAddress, bareAddress, rfc, sawp}
 use Rattle.rfc6733.specs.CreditControl.{rfc4006, rfc8506, editionOf}
 use Rattle.rfc6733.specs.Records.{avpKind, valueOf, ownErrors, errors}
-use Rattle.rfc6733.proofs.Chosen.{either}
+use Rattle.record.proofs.Chosen.{either}
 use Rattle.rfc6733.proofs.CreditControl.{each-edition}
 use Rattle.refusal.proofs.Tests.{decide}
 use Rattle.flags.proofs.Joins.{join-small, flag-small}

@@ -9,7 +9,7 @@ use native.Mathlib.Omega.{arith}
 use lib.ListN.{length, length-append}
 use Rattle.octets.specs.Run.{Tree, done, broken, plain, group, tiles, tried}
 use Rattle.rfc6733.specs.Avp as avp
-use Rattle.rfc6733.specs.Value.{Value}
+use Rattle.record.specs.Value.{Value}
 use Rattle.rfc6733.specs.Dictionary.{Dictionary}
 use Rattle.record.specs.Record.{Record}
 use Rattle.refusal.proofs.Tests.{decide}

@@ -16,7 +16,8 @@ use Rattle.record.specs.Table.{ofDepth}
 use Rattle.rfc6733.specs.Header.{headerSize, headerRefusals}
 use Rattle.rfc6733.specs.Dictionary.{Dictionary}
 use Rattle.rfc6733.specs.Records.{avps, unentered, tiling}
-use Rattle.rfc6733.specs.Decoder.{Message, allowed, limitRefusals, tileRefusals, fitRefusals, runRefusals, runRecords, messageBody, messageRecords, messageRefusals, messageOf, decoded}
+use Rattle.rfc6733.specs.Decoder.{Message, allowed, limitRefusals, fitRefusals, runRefusals, runRecords, messageBody, messageRecords, messageRefusals, messageOf, decoded}
+use Rattle.record.specs.Refusals.{tileRefusals}
 use Rattle.rfc6733.specs.Search.{outlines, firstWith, isNone, sought}
 use Rattle.rfc6733.proofs.Accepted.{when-accepted}
 use Rattle.rfc6733.proofs.Decoded.{limit-good}

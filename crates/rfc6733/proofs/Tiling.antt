@@ -1,23 +1,17 @@
 -- Whether AVPs tile does not depend on which of them are entered; and `tiling` step by step.
 use Prim.Native.Nat.{ℕ, _<_}
-use mathlib.Core.Path.{_≡_, refl, ap}
-use mathlib.Core.Bool.{Bool, true, false, cond}
+use mathlib.Core.Path.{_≡_}
+use mathlib.Core.Bool.{true, false}
 use mathlib.Core.Logic.{inl, inr}
 use mathlib.Core.List.{List, []}
 use lib.ListN.{length}
-use Rattle.octets.specs.Run.{item, after, Tree, node, tree, tiles}
-use Rattle.octets.proofs.Runs.{tree-none, tree-step, tree-broken, tree-plain, by-run}
+use Rattle.octets.specs.Run.{item, after, tree, tiles}
+use Rattle.octets.proofs.Runs.{tree-none, tree-step, tiles-node, tiles-none, tiles-broken, tiles-more, by-run}
 use Rattle.rfc6733.specs.Avp.{complete}
 use Rattle.rfc6733.specs.Dictionary.{Dictionary}
 use Rattle.rfc6733.specs.Records.{avps, unentered, tiling}
 use Rattle.refusal.proofs.Tests.{decide}
 use Rattle.rfc6733.proofs.Items.{sound}
-
--- a node tiles where its item is complete and what follows tiles
-tiles-node : (c b : Bool) (a : List ℕ) (i r : Tree) → tiles (node c b a i r) ≡ cond c (tiles r) false
-tiles-node false b a i r = refl
-tiles-node true true a i r = refl
-tiles-node true false a i r = refl
 
 pub tiles-any : (D : Dictionary) (s : List ℕ) → tiles (tree (avps D) s) ≡ tiling s
 unfolding tiling item after
@@ -30,12 +24,12 @@ tiles-any D =
 
 pub tiling-none : tiling [] ≡ true
 unfolding tiling
-tiling-none = ap tiles (tree-none unentered)
+tiling-none = tiles-none unentered
 
 pub tiling-broken : (s : List ℕ) → 0 < length s → complete s ≡ false → tiling s ≡ false
 unfolding tiling
-tiling-broken s pos e = ap tiles (tree-broken unentered (sound (λ a. false)) s pos e)
+tiling-broken = tiles-broken unentered (sound (λ a. false))
 
 pub tiling-more : (s : List ℕ) → complete s ≡ true → tiling s ≡ tiling (after unentered s)
 unfolding tiling
-tiling-more s e = ap tiles (tree-plain unentered (sound (λ a. false)) s e refl)
+tiling-more = tiles-more unentered (sound (λ a. false))

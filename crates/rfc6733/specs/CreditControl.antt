@@ -5,7 +5,8 @@ use mathlib.Core.Bool.{Bool, cond, _||_}
 use mathlib.Core.List.{List, [], _∷_, _++_}
 use lib.Dec.{eqb}
 use Rattle.record.specs.Kinds.{octetString, integer32, integer64, unsigned32, unsigned64, grouped, enumerated, utf8String, address, time}
-use Rattle.rfc6733.specs.Dictionary.{Dictionary, Row, row, baseAvps, byRows, rfc}
+use Rattle.rfc6733.specs.Dictionary.{Dictionary, baseAvps, byRows, rfc}
+use Rattle.record.specs.Rows.{Row, row}
 
 -- RFC 4006, section 8, in the order of its table. IPFilterRule has no kind here: an OctetString, from which RFC 6733, section 4.3.1, derives it
 abbrev pub avps4006 : List Row

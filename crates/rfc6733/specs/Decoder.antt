@@ -4,22 +4,17 @@ use mathlib.Core.Bool.{Bool, not, _&&_}
 use mathlib.Core.List.{List, [], _∷_, _++_}
 use lib.ListN.{length, take, drop}
 use lib.Dec.{leb, ltb}
-use Rattle.octets.specs.Run.{Tree, tree, item, tiles, tried, deepest}
+use Rattle.octets.specs.Run.{Tree, tree, item, tried, deepest}
 use Rattle.refusal.specs.Answer.{Answer, Test, refuse, answer}
-use Rattle.refusal.specs.declared.Refusal.the-variants.{NotTiled, TooDeep, NoRecords, BadDepth}
+use Rattle.refusal.specs.declared.Refusal.the-variants.{TooDeep, BadDepth}
 use Rattle.flags.specs.Flags.{join}
 use Rattle.rfc6733.specs.Header.{Header, headerSize, messageLength, headerOf, headerErrors, headerRefusals}
 use Rattle.rfc6733.specs.Avp.{avpSize, avpRefusals, mostDepth}
 use Rattle.rfc6733.specs.Dictionary.{Dictionary}
 use Rattle.record.specs.Record.{Record}
+use Rattle.record.specs.Counts.{Counts}
+use Rattle.record.specs.Refusals.{tileRefusals, roomRefusals}
 use Rattle.rfc6733.specs.Records.{avps, errors, records}
-
--- what an acceptance returns beside a header: error flags, number of records, headers tried, consumed length
-pub record Counts : Type 0 where
-  pub errors : ℕ
-  pub records : ℕ
-  pub tried : ℕ
-  pub length : ℕ
 
 pub record Message : Type 0 where
   pub header : Header
@@ -52,18 +47,11 @@ runCounts D place s =
     let t = tree (avps D) s in
     record { errors = errors D t; records = length (runRecords D place s); tried = tried t; length = length s }
 
--- it is refused where it does not tile
-abbrev pub tileRefusals : Tree → List Test
-tileRefusals t = refuse (not (tiles t)) NotTiled ∷ []
-
--- where it tries a header deeper than the limit
+-- it is refused where it does not tile; where it tries a header deeper than the limit
 abbrev pub depthRefusals : ℕ → Tree → List Test
 depthRefusals limit t = refuse (ltb limit (deepest t)) TooDeep ∷ []
 
 -- and where it has more records than there is room for
-abbrev pub roomRefusals : ℕ → List Record → List Test
-roomRefusals room rs = refuse (ltb room (length rs)) (NoRecords (length rs)) ∷ []
-
 abbrev pub fitRefusals : ℕ → ℕ → Tree → List Record → List Test
 fitRefusals limit room t rs = depthRefusals limit t ++ roomRefusals room rs
 

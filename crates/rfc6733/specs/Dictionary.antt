@@ -7,26 +7,14 @@ use lib.ListN.{length}
 use lib.Dec.{ltb, eqb}
 use Rattle.octets.specs.Octets.{be}
 use Rattle.flags.specs.Flags.{dataLength}
-use Rattle.rfc6733.specs.Value.{Value, value}
+use Rattle.record.specs.Value.{Value, value}
 use Rattle.record.specs.Kinds.{unhandled, octetString, unsigned32, unsigned64, grouped, enumerated, utf8String, diameterIdentity, diameterURI, address, time}
+use Rattle.record.specs.Rows.{Row, row, kindIn}
 
 pub record Dictionary : Type 0 where
   -- by the code, and the vendor, which is 0 without the vendor bit
   pub kind : ℕ → ℕ → ℕ
   pub asAddress : List ℕ → Value
-
--- a row of a table of AVPs: a code and its kind
-pub record Row : Type 0 where
-  pub code : ℕ
-  pub kind : ℕ
-
-abbrev pub row : ℕ → ℕ → Row
-row c k = record { code = c; kind = k }
-
--- the kind of the first row that has the code; Unhandled where none has
-abbrev pub kindIn : List Row → ℕ → ℕ
-kindIn [] c = unhandled
-kindIn (r ∷ rs) c = cond (eqb c (r .code)) (r .kind) (kindIn rs c)
 
 -- RFC 6733, section 4.5: the AVPs of the base protocol, in the order of its table
 abbrev pub baseAvps : List Row

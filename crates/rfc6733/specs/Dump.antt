@@ -9,7 +9,8 @@ use Rattle.refusal.specs.Refusals.{numberOf, amountOf}
 use Rattle.rfc6733.specs.Avp.{mostDepth}
 use Rattle.rfc6733.specs.Dictionary.{sawp}
 use Rattle.record.specs.Record.{Record}
-use Rattle.rfc6733.specs.Decoder.{Counts, Message, decoded, messageRecords}
+use Rattle.rfc6733.specs.Decoder.{Message, decoded, messageRecords}
+use Rattle.record.specs.Counts.{Counts}
 
 -- ---- the lines as numbers
 

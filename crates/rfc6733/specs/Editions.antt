@@ -6,7 +6,8 @@ use mathlib.Core.List.{List, [], _∷_, _++_}
 use Rattle.refusal.specs.Answer.{Answer, Test, refuse, answer}
 use Rattle.refusal.specs.declared.Refusal.the-variants.{BadEdition}
 use Rattle.rfc6733.specs.CreditControl.{isEdition, editionOf}
-use Rattle.rfc6733.specs.Decoder.{Counts, Message, limitRefusals, bytesRefusals, messageOf, aloneBytesRefusals, aloneOf}
+use Rattle.rfc6733.specs.Decoder.{Message, limitRefusals, bytesRefusals, messageOf, aloneBytesRefusals, aloneOf}
+use Rattle.record.specs.Counts.{Counts}
 
 abbrev pub editionRefusals : ℕ → List Test
 editionRefusals n = refuse (not (isEdition n)) BadEdition ∷ []

@@ -5,7 +5,8 @@ use mathlib.Core.Bool.{cond, _&&_}
 use mathlib.Core.List.{List}
 use lib.Dec.{eqb}
 use Rattle.octets.specs.Run.{Tree, done, tree}
-use Rattle.rfc6733.specs.Value.{Value, dataAs}
+use Rattle.rfc6733.specs.Value.{dataAs}
+use Rattle.record.specs.Value.{Value}
 use Rattle.record.specs.Kinds.{grouped}
 use Rattle.rfc6733.specs.Dictionary.{Dictionary}
 use Rattle.rfc6733.specs.Records.{avps, tiling, groupValue}

@@ -7,7 +7,8 @@ use lib.Dec.{eqb}
 use Rattle.octets.specs.Run.{Format, Tree, done, broken, plain, group, tree, tiles}
 use Rattle.flags.specs.Flags.{dataValue, nonZeroReserved, nonZeroPadding, flag, join}
 use Rattle.rfc6733.specs.Avp as avp
-use Rattle.rfc6733.specs.Value.{Value, value, dataAs}
+use Rattle.rfc6733.specs.Value.{dataAs}
+use Rattle.record.specs.Value.{Value, value}
 use Rattle.record.specs.Kinds.{unhandled, grouped}
 use Rattle.rfc6733.specs.Dictionary.{Dictionary}
 use Rattle.record.specs.Record.{Record}

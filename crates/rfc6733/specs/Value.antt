@@ -5,18 +5,9 @@ use mathlib.Core.List.{List, [], _∷_}
 use lib.ListN.{length}
 use lib.Dec.{ltb, eqb}
 use Rattle.octets.specs.Octets.{be}
-use Rattle.rfc3629.specs.Utf8.{wellFormed, validUpTo}
-use Rattle.flags.specs.Flags.{dataValue, dataLength, flag}
+use Rattle.flags.specs.Flags.{dataLength, flag}
 use Rattle.record.specs.Kinds.{unhandled, integer32, integer64, unsigned32, unsigned64, float32, float64, enumerated, utf8String, diameterIdentity, diameterURI, address, time}
-
--- What a reading makes of data: a kind, the error flags that it raises, and the number in a record's value field.
-pub record Value : Type 0 where
-  pub kind : ℕ
-  pub errors : ℕ
-  pub number : ℕ
-
-abbrev pub value : ℕ → ℕ → ℕ → Value
-value k e n = record { kind = k; errors = e; number = n }
+use Rattle.record.specs.Value.{Value, value, text}
 
 -- a number of w bytes. Departure D3: surplus data is kept, and too little is Unhandled, each with DataLength
 unfoldable pub fixed : ℕ → ℕ → List ℕ → Value
@@ -24,12 +15,8 @@ fixed w k s =
     cond (ltb (length s) w) (value unhandled dataLength 0)
     (value k (flag (ltb w (length s)) dataLength) (be w s 0))
 
--- text. Departures D1 and D2: RFC 3629 decides, and nothing more is asked of an identity or a URI. Where it is ill-formed, the number is the
--- length of its longest prefix that is not
-unfoldable pub text : ℕ → List ℕ → Value
-text k s = cond (wellFormed s) (value k 0 0) (value unhandled dataValue (validUpTo s))
-
--- the kinds that are numbers of 32 and of 64 bits, and those that are text
+-- the kinds that are numbers of 32 and of 64 bits, and those that are text. Departures D1 and D2: nothing more is asked of an identity or
+-- a URI than of any text
 abbrev pub kinds32 : List ℕ
 kinds32 = integer32 ∷ unsigned32 ∷ float32 ∷ enumerated ∷ time ∷ []
 

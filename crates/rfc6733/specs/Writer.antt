@@ -1,19 +1,19 @@
 -- What the writer answers, and what the output holds afterwards (docs/FORMAT.md, 8).
-use Prim.Native.Nat.{ℕ, suc, _+_, _-_, _/_, _%_, _^_}
-use mathlib.Core.Bool.{Bool, true, cond, not, _&&_, _||_}
+use Prim.Native.Nat.{ℕ, suc, _+_, _-_, _%_, _^_}
+use mathlib.Core.Bool.{Bool, cond, _&&_, _||_}
 use mathlib.Core.List.{List, [], _∷_, _++_}
 use lib.ListN.{length, take, drop}
 use lib.Dec.{leb, ltb, eqb}
-use Rattle.octets.specs.Octets.{octets, Field, pack, over, fieldsOf}
-use Rattle.refusal.specs.Answer.{Answer, accepted, refused, refuse, answer}
-use Rattle.refusal.specs.declared.Refusal.the-variants.{BadHeader, BadTable, TooLong, NoRoom}
+use Rattle.octets.specs.Octets.{octets, Field, pack, fieldsOf}
+use Rattle.refusal.specs.Answer.{Answer, refuse, answer}
+use Rattle.refusal.specs.declared.Refusal.the-variants.{BadHeader, TooLong, NoRoom}
 use Rattle.flags.specs.Flags.{bit}
 use Rattle.rfc6733.specs.Avp as avp
 use Rattle.rfc6733.specs.Header.{Header, headerLayout}
 use Rattle.record.specs.Kinds.{grouped, time}
-use Rattle.record.specs.Record.{Record, recordSize}
+use Rattle.record.specs.Record.{Record}
 use Rattle.record.specs.Forest.{Forest, none, node, forest}
-use Rattle.record.specs.Table.{tableOf}
+use Rattle.record.specs.Table.{tableOf, all, badTable}
 
 -- the header fields that the writer takes
 pub record Fields : Type 0 where
@@ -34,10 +34,6 @@ headOf r = avp.headSize (r .flags)
 
 unfoldable pub statedData : Record → ℕ
 statedData r = r .length - headOf r
-
-abbrev pub all : List Bool → Bool
-all [] = true
-all (b ∷ bs) = b && all bs
 
 -- the rules of a record that is no group, where n bytes are there to point into
 unfoldable pub keepsLeaf : ℕ → Record → Bool
@@ -128,13 +124,8 @@ written f table pool room =
     let total = length (tableBytes f table pool) in
     answer
     (refuse (ltb most24 (f .code)) BadHeader
-    ∷ refuse (ltb kept (length table / recordSize) || not (eqb (length table % recordSize) 0)) (BadTable kept)
+    ∷ badTable kept table
     ∷ refuse (ltb most24 total) TooLong
     ∷ refuse (ltb room total) (NoRoom total)
     ∷ [])
     total
-
--- the output afterwards: past the total, and where the table was refused, as lent
-unfoldable pub output : Answer ℕ → List ℕ → List ℕ → List ℕ
-output (accepted total) message out = over message out
-output (refused why) message out = out

@@ -14,19 +14,18 @@ use Rattle.octets.proofs.Numbers.{be-small}
 use Rattle.octets.proofs.Layouts.{pack-unpack}
 use Rattle.flags.specs.Flags.{bit}
 use Rattle.rfc6733.specs.Avp.{flags, avpLength, vendorBit, headSize, vendor, dataSize, padding, payload, pads, Exact}
-use Rattle.rfc6733.specs.Value.{Value}
+use Rattle.record.specs.Value.{Value}
 use Rattle.record.specs.Kinds.{grouped, time}
 use Rattle.record.specs.Record.{Record}
 use Rattle.rfc6733.specs.Records.{recordOf}
-use Rattle.record.specs.Table.{bare}
+use Rattle.record.specs.Table.{bare, Fits}
 use Rattle.rfc6733.specs.Writer.{headOf, statedData, avpBytes, headFields, padBytes}
 use Rattle.rfc6733.proofs.Complete.{sizes, exact-sizes}
 use Rattle.refusal.proofs.Tests.{decide}
 use Rattle.rfc6733.proofs.Items.{payload-length}
 use Rattle.round_trip.specs.Rules.{Good}
-use Rattle.round_trip.specs.Tables.{Fits}
 use Rattle.round_trip.proofs.Lengths.{no-padding}
-use Rattle.round_trip.proofs.Packed.{bytes-drop}
+use Rattle.octets.proofs.Held.{bytes-drop}
 use Rattle.round_trip.proofs.Pads.{pads-written, pads-unused}
 
 -- ---- the parts of an AVP

@@ -13,14 +13,13 @@ use Rattle.octets.proofs.Layouts.{fit-at}
 use Rattle.flags.specs.Flags.{bit}
 use Rattle.rfc6733.specs.Avp.{code, flags, avpLength, vendorBit, headSize, vendor, dataSize, padding, payload, pads, Exact}
 use Rattle.record.specs.Record.{Record, recordLayout}
-use Rattle.record.specs.Table.{bare}
+use Rattle.record.specs.Table.{bare, Fits}
 use Rattle.rfc6733.specs.Writer.{isGroup, headOf, avpBytes, headFields, padBytes}
 use Rattle.rfc6733.proofs.Complete.{sizes, whole-complete}
 use Rattle.refusal.proofs.Tests.{decide}
 use Rattle.round_trip.specs.Rules.{Good}
-use Rattle.round_trip.specs.Tables.{Fits}
 use Rattle.round_trip.specs.Tops.{topOf, topRecord}
-use Rattle.round_trip.proofs.Tables.{field-back}
+use Rattle.record.proofs.Tables.{field-back}
 use Rattle.round_trip.proofs.Lengths.{head-low, head-length, avp-length, Padded}
 use Rattle.round_trip.proofs.Pads.{pads-read}
 

@@ -11,24 +11,23 @@ use lib.Dec.{eqb}
 use Rattle.octets.specs.Octets.{Bytes}
 use Rattle.octets.proofs.Runs.{false-true}
 use Rattle.rfc6733.specs.Avp.{flags, headSize, dataSize, payload, Exact}
-use Rattle.rfc6733.specs.Value.{Value, value}
+use Rattle.record.specs.Value.{Value, value}
 use Rattle.record.specs.Kinds.{grouped, time}
 use Rattle.record.specs.Forest as table
 use Rattle.record.specs.Forest.{Forest, none, flat}
 use Rattle.rfc6733.specs.Writer.{headOf, statedData, forestBytes, bodyOf}
 use Rattle.rfc6733.specs.Records.{recordOf}
-use Rattle.record.specs.Table.{bare}
+use Rattle.record.specs.Table.{bare, Fits, AllFit}
 use Rattle.rfc6733.proofs.Complete.{exact-sizes}
 use Rattle.refusal.proofs.Tests.{decide}
 use Rattle.rfc6733.proofs.Items.{payload-length}
-use Rattle.round_trip.specs.Tables.{Fits, AllFit}
 use Rattle.round_trip.specs.Trip.{Ungrouped}
 use Rattle.round_trip.proofs.Rules.{good-keeps}
 use Rattle.round_trip.proofs.Lengths.{long}
-use Rattle.round_trip.proofs.Tables.{every-both}
+use Rattle.record.proofs.Tables.{every-both}
 use Rattle.round_trip.proofs.Again.{own, avp-again, own-good, own-fits}
 use Rattle.round_trip.proofs.Shape.{Sound, sound-kept}
-use Rattle.round_trip.proofs.Packed.{Holds, holds-part, holds-fits, holds-data}
+use Rattle.octets.proofs.Held.{Holds, holds-part, holds-fits, holds-data}
 
 -- the forest f, whose trees stand at a depth, keeps the rules, fits a table, and writes s
 pub record Trip (pool : List ℕ) (depth : ℕ) (s : List ℕ) (f : Forest) : Type 0 where

@@ -17,8 +17,9 @@ use Rattle.rfc6733.specs.Dictionary.{Dictionary}
 use Rattle.rfc6733.specs.Records.{avps, avpKind, valueOf, groupValue, recordOf, records}
 use Rattle.rfc6733.specs.Broken.{TellsBreak}
 use Rattle.rfc6733.proofs.Breaks as values
-use Rattle.rfc6733.proofs.Breaks.{Silent, group-silent}
-use Rattle.round_trip.proofs.Packed.{Holds}
+use Rattle.rfc6733.proofs.Breaks.{group-silent}
+use Rattle.record.proofs.Breaks.{Silent}
+use Rattle.octets.proofs.Held.{Holds}
 use Rattle.round_trip.proofs.EveryRecord.{Stands, data-is, every}
 
 module _ (D : Dictionary) (silent : (s : List ℕ) → Silent (D .asAddress s)) (pool : List ℕ) where

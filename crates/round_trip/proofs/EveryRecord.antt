@@ -15,15 +15,15 @@ use Rattle.record.specs.Kinds.{grouped}
 use Rattle.record.specs.Record.{Record}
 use Rattle.record.specs.Table.{Every}
 use Rattle.rfc6733.specs.Avp.{flags, headSize, dataSize, payload, complete, Exact}
-use Rattle.rfc6733.specs.Value.{Value}
+use Rattle.record.specs.Value.{Value}
 use Rattle.rfc6733.specs.Dictionary.{Dictionary}
 use Rattle.rfc6733.specs.Records.{avps, avpKind, valueOf, groupValue, recordOf, records}
 use Rattle.rfc6733.specs.Writer.{headOf, statedData, dataIn}
 use Rattle.rfc6733.proofs.Alone.{item-exact}
 use Rattle.rfc6733.proofs.Complete.{exact-sizes}
 use Rattle.rfc6733.proofs.Items.{sound, payload-length}
-use Rattle.round_trip.proofs.Packed.{Holds, holds-front, holds-behind, holds-data, bytes-held}
-use Rattle.round_trip.proofs.Tables.{every-both}
+use Rattle.octets.proofs.Held.{Holds, holds-front, holds-behind, holds-data, bytes-held}
+use Rattle.record.proofs.Tables.{every-both}
 use Rattle.round_trip.proofs.AvpTrip.{payload-held}
 
 -- an AVP that stands at a place

@@ -10,9 +10,10 @@ use native.Mathlib.Omega.{arith}
 use lib.Dec.{leb, eqb}
 use borrow.Author.Tests.{leb-true}
 use Rattle.rfc6733.specs.Avp.{payload}
-use Rattle.rfc6733.specs.Value.{Value}
+use Rattle.record.specs.Value.{Value}
 use Rattle.record.specs.Kinds.{grouped, time}
-use Rattle.rfc6733.specs.Dictionary.{Dictionary, Row, kindIn, baseAvps, sawpAvps, byRows, rfc, sawp}
+use Rattle.rfc6733.specs.Dictionary.{Dictionary, baseAvps, sawpAvps, byRows, rfc, sawp}
+use Rattle.record.specs.Rows.{Row, kindIn}
 use Rattle.rfc6733.specs.CreditControl.{avps4006, avps8506, rfc4006, rfc8506, editionOf}
 use Rattle.rfc6733.proofs.CreditControl.{each-edition}
 use Rattle.rfc6733.specs.Records.{avpKind, valueOf}

@@ -2,7 +2,6 @@ pub mod Rules
 pub mod Shape
 pub mod Kept
 pub mod Lengths
-pub mod Tables
 pub mod Turns
 pub mod Packed
 pub mod Pads

@@ -21,7 +21,7 @@ use Rattle.rfc6733.specs.Records.{avps}
 use Rattle.rfc6733.specs.Decoder.{messageBody}
 use Rattle.record.specs.Forest as table
 use Rattle.record.specs.Forest.{Forest, none, forest, flat}
-use Rattle.record.specs.Table.{tableOf, ofDepth}
+use Rattle.record.specs.Table.{tableOf, ofDepth, AllFit}
 use Rattle.rfc6733.specs.Writer.{Fields, avpBytes, forestBytes, bodyOf, tableBytes, written}
 use Rattle.rfc6733.proofs.Complete.{complete-whole, whole-complete}
 use Rattle.rfc6733.proofs.Items.{sound}
@@ -29,12 +29,11 @@ use Rattle.rfc6733.proofs.Messages.{message-read}
 use Rattle.refusal.proofs.Tests.{decide}
 use Rattle.round_trip.specs.Forests.{size}
 use Rattle.round_trip.specs.Rules.{Kept}
-use Rattle.round_trip.specs.Tables.{AllFit}
 use Rattle.round_trip.specs.Tops.{topOf, tops, topRecords, roots}
 use Rattle.round_trip.proofs.Shape.{flat-forest}
 use Rattle.round_trip.proofs.Kept.{valid-kept, roots-table}
 use Rattle.round_trip.proofs.Lengths.{head-low, avp-length, body, long, message-length}
-use Rattle.round_trip.proofs.Tables.{fit-after, table-fits}
+use Rattle.record.proofs.Tables.{fit-after, table-fits}
 use Rattle.round_trip.proofs.AvpBack.{exact-back, top-back}
 use Rattle.round_trip.proofs.Written.{written-writable}
 

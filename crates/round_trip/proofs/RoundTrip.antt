@@ -18,16 +18,14 @@ use Rattle.record.specs.Record.{laid}
 use Rattle.rfc6733.specs.Records.{avps}
 use Rattle.rfc6733.specs.Decoder.{Message, runRecords, messageBody, messageRecords, decoded}
 use Rattle.record.specs.Forest.{Forest, flat}
-use Rattle.record.specs.Table.{tableOf}
+use Rattle.record.specs.Table.{tableOf, AllFit}
 use Rattle.rfc6733.specs.Writer.{forestBytes, headerFields, messageBytes, tableBytes, most24, written}
 use Rattle.rfc6733.proofs.Accepted.{Headed, when-accepted}
 use Rattle.record.proofs.Layouts.{laid-length}
-use Rattle.round_trip.specs.Tables.{AllFit}
 use Rattle.round_trip.specs.Trip.{fieldsOf, Lawful, forestOf}
-use Rattle.round_trip.proofs.Packed.{bytes-take, bytes-drop}
-use Rattle.round_trip.proofs.Tables.{laid-read}
+use Rattle.octets.proofs.Held.{bytes-take, bytes-drop, holds-here}
+use Rattle.record.proofs.Tables.{laid-read}
 use Rattle.round_trip.proofs.Shape.{sound-valid, sound-read}
-use Rattle.round_trip.proofs.Packed.{holds-here}
 use Rattle.round_trip.proofs.AvpTrip.{Trip}
 use Rattle.round_trip.proofs.RunTrip.{flat-records, records-fit-as, trips}
 use Rattle.round_trip.proofs.Written.{writable-written}

@@ -11,21 +11,21 @@ use Rattle.octets.specs.Octets.{Bytes}
 use Rattle.octets.specs.Run.{item, after, Tree, done, broken, plain, group, node, tree, tiles, deepest}
 use Rattle.octets.proofs.Runs.{false-true, Parts, tree-none, tree-step, by-run}
 use Rattle.rfc6733.specs.Avp.{flags, headSize, payload, complete, Exact}
-use Rattle.rfc6733.specs.Value.{Value}
+use Rattle.record.specs.Value.{Value}
 use Rattle.rfc6733.specs.Dictionary.{Dictionary}
 use Rattle.rfc6733.specs.Records.{valueOf, groupValue, avps, errors, records}
 use Rattle.record.specs.Forest as table
 use Rattle.record.specs.Forest.{none, flat}
-use Rattle.record.specs.Table.{bare}
+use Rattle.record.specs.Table.{bare, AllFit}
 use Rattle.rfc6733.proofs.Alone.{item-exact}
 use Rattle.rfc6733.proofs.Complete.{exact-sizes}
 use Rattle.rfc6733.proofs.Items.{sound, payload-length}
 use Rattle.refusal.proofs.Tests.{decide}
-use Rattle.round_trip.specs.Tables.{AllFit}
 use Rattle.round_trip.specs.Trip.{Ungrouped, Lawful, forestOf}
-use Rattle.round_trip.proofs.Packed.{bytes-item, bytes-payload, bytes-after, Holds, holds-front, holds-behind}
+use Rattle.round_trip.proofs.Packed.{bytes-payload}
+use Rattle.octets.proofs.Held.{bytes-item, bytes-after, Holds, holds-front, holds-behind}
 use Rattle.round_trip.proofs.LeafKinds.{value-leaf}
-use Rattle.round_trip.proofs.Tables.{fit-bare}
+use Rattle.record.proofs.Tables.{fit-bare}
 use Rattle.round_trip.proofs.Shape.{Sound}
 use Rattle.round_trip.proofs.Again.{own}
 use Rattle.round_trip.proofs.AvpTrip.{Trip, payload-held, trip-leaf, trip-group}
@@ -88,16 +88,16 @@ module _ (pool : List ℕ) (D : Dictionary) (lawful : Lawful D) where
       members d t =
           let z = exact-sizes a exact in
           let l = payload-length a (z .0) in
-          inside (place + headSize (flags a)) (depth + 1) (omega arith) d (bytes-payload a (bytes-item D s bytes)) (omega (arith, exact .size-is))
+          inside (place + headSize (flags a)) (depth + 1) (omega arith) d (bytes-payload a (bytes-item (avps D) s bytes)) (omega (arith, exact .size-is))
           (payload-held pool place a exact held) t
 
       module _ (deep : depth + deepest rest ≤ 65) (high : depth ≤ 64) (tiled : tiles rest ≡ true) where
         follows : Trip pool depth x (forestOf D (place + length a) depth rest)
-        follows = behind (place + length a) depth low deep (bytes-after D s bytes) (omega arith) (holds-behind pool place a x both) tiled
+        follows = behind (place + length a) depth low deep (bytes-after (avps D) s bytes) (omega arith) (holds-behind pool place a x both) tiled
 
         as-leaf : (v : Value) → Ungrouped v
             → Trip pool depth (a ++ x) (table.node (own place depth a v) none (forestOf D (place + length a) depth rest))
-        as-leaf v u = trip-leaf pool place depth a exact (bytes-item D s bytes) held (omega arith) low high v _ x u follows
+        as-leaf v u = trip-leaf pool place depth a exact (bytes-item (avps D) s bytes) held (omega arith) low high v _ x u follows
 
       trips-node : (b : Bool) → avps D .nested a ≡ b → depth + deepest (node true b a inner rest) ≤ 65 → tiles (node true b a inner rest) ≡ true
           → Trip pool depth (a ++ x) (forestOf D place depth (node true b a inner rest))
@@ -107,7 +107,7 @@ module _ (pool : List ℕ) (D : Dictionary) (lawful : Lawful D) where
           elim (decide (tiles inner)) [
             | inl f ↦
                 rw f
-                (trip-group pool place depth a exact (bytes-item D s bytes) held (omega arith) low (omega arith) (errors D inner) _ _ x
+                (trip-group pool place depth a exact (bytes-item (avps D) s bytes) held (omega arith) low (omega arith) (errors D inner) _ _ x
                 (members (omega arith) f) (follows (omega arith) (omega arith) t))
             | inr f ↦ rw f (as-leaf (omega arith) (omega arith) t _ (record { low = omega arith; other = refl }))
           ]

@@ -1,26 +1,23 @@
--- A record of a message that was accepted is read back whole from its 32 bytes: the numbers that the writer takes fit by the round
+-- The records of a message that was accepted are read back whole from their bytes: the numbers that the writer takes fit by the round
 -- trip, the error flags are below 16, and the value was read of bytes, or counts some of them, so that it fits eight.
-use Prim.Native.Nat.{ℕ, suc, _-_, _^_, _<_}
-use mathlib.Core.Path.{_≡_, refl, sym, ap, ap₂, _∙_}
+use Prim.Native.Nat.{ℕ, _-_}
+use mathlib.Core.Path.{_≡_}
 use mathlib.Core.Logic.{inl, inr}
-use mathlib.Core.List.{List, [], _∷_, _++_, append-assoc}
+use mathlib.Core.List.{List}
 use native.Mathlib.Omega.{arith}
-use lib.ListN.{length}
-use lib.Seq.{drop-at}
 use Rattle.octets.specs.Octets.{Bytes}
 use Rattle.octets.specs.Run.{item, Tree, tree, tiles}
 use Rattle.octets.proofs.Numbers.{be-small}
-use Rattle.octets.proofs.Layouts.{value-back, fit-at}
 use Rattle.refusal.specs.Answer.{accepted}
 use Rattle.rfc6733.specs.Header.{headerSize, messageLength}
 use Rattle.rfc6733.specs.Avp.{avpSize, payload}
-use Rattle.rfc6733.specs.Value.{Value}
+use Rattle.record.specs.Value.{Value}
 use Rattle.rfc6733.specs.Dictionary.{Dictionary, sawp}
-use Rattle.record.specs.Record.{Record, recordSize, recordLayout, recordBytes, recordAt, laid}
-use Rattle.record.specs.Table.{bare, wholeRecords, Every}
-use Rattle.record.proofs.Layouts.{record-length}
+use Rattle.record.specs.Table.{Every}
+use Rattle.record.proofs.Back.{Valued, Whole}
 use Rattle.rfc6733.specs.Records.{avps, ownErrors, valueOf, groupValue, recordOf, records}
-use Rattle.rfc6733.specs.Decoder.{Counts, Message, runRecords, messageBody, messageRecords, decoded, aloneRecords, avpAlone}
+use Rattle.rfc6733.specs.Decoder.{Message, runRecords, messageBody, messageRecords, decoded, aloneRecords, avpAlone}
+use Rattle.record.specs.Counts.{Counts}
 use Rattle.flags.proofs.Joins.{join-small}
 use Rattle.rfc6733.proofs.Accepted.{when-alone}
 use Rattle.rfc6733.proofs.Alone.{item-exact, exact-tiles}
@@ -28,46 +25,13 @@ use Rattle.rfc6733.proofs.Complete.{exact-sizes}
 use Rattle.rfc6733.proofs.Items.{payload-length}
 use Rattle.rfc6733.proofs.RunErrors.{Small, own-small, value-small, errors-small, bare-small}
 use Rattle.refusal.proofs.Tests.{decide}
-use Rattle.round_trip.specs.Tables.{Fits, AllFit}
 use Rattle.round_trip.specs.Trip.{Lawful}
-use Rattle.round_trip.proofs.Packed.{bytes-item, bytes-payload, Holds, holds-here}
+use Rattle.round_trip.proofs.Packed.{bytes-payload}
+use Rattle.octets.proofs.Held.{bytes-item, Holds, holds-here}
 use Rattle.round_trip.proofs.LeafKinds.{sawp-lawful}
 use Rattle.round_trip.proofs.RunTrip.{records-fit-as, trips}
 use Rattle.round_trip.proofs.EveryRecord.{Stands, every}
 use Rattle.round_trip.proofs.RoundTrip.{records-fit}
-
--- what the writer does not take of a record fits as well
-pub record Valued (r : Record) : Type 0 where
-  pub errors-fit : r .errors < 16
-  pub value-fits : r .value < 256 ^ 8
-
-pub record Whole (rs : List Record) : Type 0 where
-  pub fits : AllFit rs
-  pub valued : Every Valued rs
-
--- ---- read back
-
-record-back : (r : Record) (more : List ℕ) → Fits r → Valued r → recordAt (recordBytes r ++ more) ≡ r
-unfolding recordAt recordBytes bare
-record-back r more f v =
-    let g = fit-at (recordLayout .sizes) (recordLayout .numbers (bare r)) f in
-    let e = v .errors-fit in
-    value-back recordLayout (λ x. refl) r more
-    (g 0, (g 1, (g 2, (g 3, (g 4, (g 5, (g 6, (omega arith, (g 8, (g 9, (g 10, (v .value-fits, tt))))))))))))
-
-pub records-back : (rs : List Record) (more : List ℕ) → Whole rs → wholeRecords (length rs) (laid rs ++ more) ≡ rs
-records-back [] more w = refl
-records-back (r ∷ rs) more w =
-    let s = laid rs ++ more in
-    let others : Whole rs = record { fits = w .fits .1; valued = w .valued .1 } in
-    ap (wholeRecords (suc (length rs))) (append-assoc (recordBytes r) (laid rs) more)
-    ∙ ap₂ {C = List Record} (λ x y. x ∷ y) (record-back r s (w .fits .0) (w .valued .0))
-    (ap (wholeRecords (length rs)) (drop-at (recordBytes r) s recordSize (record-length r)) ∙ records-back rs more others)
-
--- so what holds of each of them holds of each that is read from a store
-pub every-back : (P : Record → Type 0) (rs : List Record) (n : ℕ) (store more : List ℕ) → length rs ≡ n → store ≡ laid rs ++ more → Whole rs → Every P rs
-    → Every P (wholeRecords n store)
-every-back P rs n store more counted is w all = rw (ap₂ wholeRecords (sym counted) is ∙ records-back rs more w) all
 
 -- ---- the records of a message
 
@@ -119,7 +83,7 @@ alone-whole D lawful address-small limit room s c b e =
     let a = item (avps D) s in
     let exact = item-exact D s (acc .whole) in
     let sizes = exact-sizes a exact in
-    let own = bytes-item D s b in
+    let own = bytes-item (avps D) s b in
     let few = be-small 3 a 5 own in
     let held = holds-here s 0 (avpSize s) in
     let trip = trips s D lawful a 0 1 (omega arith) (omega (arith, acc .shallow, acc .limit-high)) own (omega (arith, exact .size-is, sizes .1)) held (exact-tiles D a exact) in

@@ -16,7 +16,7 @@ use Rattle.refusal.proofs.Answers.{passed, accepts}
 use Rattle.refusal.proofs.Tests.{eq-is, tests}
 use Rattle.round_trip.specs.Rules.{Valid}
 use Rattle.round_trip.proofs.Rules.{keepers-valid, valid-keepers, keepers-most}
-use Rattle.round_trip.proofs.Tables.{table-length}
+use Rattle.record.proofs.Tables.{table-length}
 
 pub record Writable (f : Fields) (table pool : List ℕ) (room : ℕ) : Type 0 where
   pub code-fits : f .code ≤ most24

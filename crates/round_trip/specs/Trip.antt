@@ -8,7 +8,7 @@ use lib.Dec.{eqb}
 use Rattle.octets.specs.Run.{Tree, done, broken, plain, group, tiles}
 use Rattle.rfc6733.specs.Header.{Header}
 use Rattle.rfc6733.specs.Avp.{flags, headSize}
-use Rattle.rfc6733.specs.Value.{Value}
+use Rattle.record.specs.Value.{Value}
 use Rattle.record.specs.Kinds.{grouped, time}
 use Rattle.rfc6733.specs.Dictionary.{Dictionary}
 use Rattle.rfc6733.specs.Records.{valueOf, groupValue, recordOf}

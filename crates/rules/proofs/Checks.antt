@@ -3,20 +3,19 @@
 use Prim.Native.Nat.{ℕ, suc, _+_, _*_, _/_, _%_, _^_, _-_, _≤_, _<_}
 use mathlib.Core.Path.{_≡_}
 use mathlib.Core.Bool.{true, false, cond, _&&_, _||_, and-true, and-false}
-use mathlib.Core.List.{List, _∷_}
+use mathlib.Core.List.{List}
 use native.Mathlib.Omega.{arith}
-use lib.ListN.{length, take, drop, length-drop}
-use lib.Seq.{drop-drop}
+use lib.ListN.{length, take}
 use lib.Dec.{eqb}
 use borrow.Author.Tests.{le-leb, lt-leb, eq-eqb}
-use Rattle.octets.proofs.Lists.{rest}
 use Rattle.flags.specs.Flags.{bit}
 use Rattle.rfc6733.specs.Avp.{vendorBit, padding, mostDepth}
 use Rattle.record.specs.Kinds.{time}
 use Rattle.record.specs.Record.{Record, recordSize}
 use Rattle.record.specs.Table.{entryAt, tableOf}
 use Rattle.rfc6733.specs.Writer.{isGroup, headOf, statedData, keeps, keepers, allowedAfter, keepsLeaf}
-use Rattle.round_trip.proofs.Tables.{table-none, table-some}
+use Rattle.record.proofs.Steps as steps
+use Rattle.record.proofs.Steps.{from, next}
 
 -- ---- a record
 
@@ -46,23 +45,14 @@ module _ (allowed n : ℕ) (r : Record) where
 -- ---- a table
 
 module _ (allowed n : ℕ) (table : List ℕ) (k : ℕ) where
-  abbrev here : List ℕ
-  here = drop (k * recordSize) table
-
-  pub none-left : length table / recordSize ≤ k → keepers allowed n (tableOf here) ≡ 0
-  none-left h = rw (table-none here (omega (arith, length-drop (k * recordSize) table)))
+  pub none-left : length table / recordSize ≤ k → keepers allowed n (tableOf (from table k)) ≡ 0
+  none-left h = rw (steps.none-left table k h)
 
   -- a record is there, read from the part of the table that is lent
-  module _ (r : Record) (some : k < length table / recordSize) (read : r ≡ entryAt (take (length table - k * recordSize) here)) where
-    first : tableOf here ≡ r ∷ tableOf (drop ((k + 1) * recordSize) table)
-    first =
-        let next : (k + 1) * recordSize ≡ k * recordSize + recordSize = omega arith in
-        let is = rw (rest table (k * recordSize) (omega arith)) at read in
-        rw (is, next, ← drop-drop recordSize (k * recordSize) table) (table-some here (omega (arith, length-drop (k * recordSize) table)))
-
-    pub stops : keeps allowed n r ≡ false → keepers allowed n (tableOf here) ≡ 0
-    stops e = rw first (rw e)
+  module _ (r : Record) (some : k < length table / recordSize) (read : r ≡ entryAt (take (length table - k * recordSize) (from table k))) where
+    pub stops : keeps allowed n r ≡ false → keepers allowed n (tableOf (from table k)) ≡ 0
+    stops e = rw (next table k some read) (rw e)
 
     pub one-more : keeps allowed n r ≡ true
-        → keepers allowed n (tableOf here) ≡ suc (keepers (allowedAfter r) n (tableOf (drop ((k + 1) * recordSize) table)))
-    one-more e = rw first (rw e)
+        → keepers allowed n (tableOf (from table k)) ≡ suc (keepers (allowedAfter r) n (tableOf (from table (k + 1))))
+    one-more e = rw (next table k some read) (rw e)

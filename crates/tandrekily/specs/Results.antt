@@ -10,11 +10,12 @@ use Rattle.refusal.specs.Answer.{Refusal, Answer, accepted, refused}
 use Rattle.refusal.specs.Refusals.{numberOf, amountOf}
 use Rattle.rfc6733.specs.Header.{Header, headerLayout}
 use Rattle.rfc6733.specs.CreditControl.{editionOf}
-use Rattle.rfc6733.specs.Decoder.{Counts, Message, decoded, messageRecords, avpAlone, aloneRecords}
+use Rattle.rfc6733.specs.Decoder.{Message, decoded, messageRecords, avpAlone, aloneRecords}
+use Rattle.record.specs.Counts.{Counts}
 use Rattle.rfc6733.specs.Editions.{decodedBy, avpAloneBy}
 use Rattle.record.specs.Outline.{Outline, outlineNumbers}
-use Rattle.record.specs.Store.{room, stored}
-use Rattle.rfc6733.specs.Writer.{Fields, written, tableBytes, output}
+use Rattle.record.specs.Store.{room, stored, output}
+use Rattle.rfc6733.specs.Writer.{Fields, written, tableBytes}
 use Rattle.reader.specs.declared.Stepped.{Stepped}
 use Rattle.reader.specs.Reading.{foundOf, answerOf}
 use Rattle.unit_value.specs.declared.Ordering.{Ordering}

@@ -4,7 +4,7 @@ use Prim.Native.Nat.{ℕ}
 use mathlib.Core.Path.{_≡_, refl, sym, ap, _∙_}
 use mathlib.Core.List.{List, [], _∷_}
 use lib.ListN.{getD}
-use Rattle.rfc6733.specs.Value as rfc
+use Rattle.record.specs.Value as values
 use Rattle.value.specs.declared.Value.{Value}
 use Rattle.value.specs.declared.Value.the-variants.{Unhandled, OctetString, Integer32, Integer64, Unsigned32, Unsigned64, Float32, Float64, Grouped, Enumerated, UTF8String, DiameterIdentity, DiameterURI, Address, Time}
 use Rattle.value.specs.declared.IpAddr.{IpAddr}
@@ -35,10 +35,10 @@ value-is-back DiameterURI a told = refl
 value-is-back (Address b) a told = ap Address (sym (told b refl))
 value-is-back (Time n) a told = refl
 
-abbrev read-back : rfc.Value → List ℕ → Read
+abbrev read-back : values.Value → List ℕ → Read
 read-back v s = record { value = value-back (v .kind) (v .number) (addressOf s (v .number)); errors = v .errors }
 
-read-is-back : (v : rfc.Value) (s : List ℕ) (r : Read) → Shows v s r → read-back v s ≡ r
+read-is-back : (v : values.Value) (s : List ℕ) (r : Read) → Shows v s r → read-back v s ≡ r
 unfolding readAs
 read-is-back v s r h =
     let e : read-back v s ≡ record { value = r .value; errors = r .errors } =
@@ -47,5 +47,5 @@ read-is-back v s r h =
     e
 
 -- two outcomes that show the same value of the same data are the same
-pub one-value : (v : rfc.Value) (s : List ℕ) (r r′ : Read) → Shows v s r → Shows v s r′ → r ≡ r′
+pub one-value : (v : values.Value) (s : List ℕ) (r r′ : Read) → Shows v s r → Shows v s r′ → r ≡ r′
 one-value v s r r′ h h′ = sym (read-is-back v s r h) ∙ read-is-back v s r′ h′

@@ -15,8 +15,9 @@ use Rattle.rfc3629.specs.declared.Utf8.{Utf8}
 use Rattle.rfc3629.specs.declared.Utf8.the-variants.{WellFormed, ValidUpTo}
 use Rattle.rfc3629.proofs.Answers.{Says, says}
 use Rattle.flags.specs.Flags.{dataValue, dataLength, flag}
-use Rattle.rfc6733.specs.Value as rfc
-use Rattle.rfc6733.specs.Value.{value, kinds32, kinds64, fixed, text}
+use Rattle.record.specs.Value as values
+use Rattle.rfc6733.specs.Value.{kinds32, kinds64, fixed, dataAs}
+use Rattle.record.specs.Value.{value, text}
 use Rattle.record.specs.Kinds.{address, grouped, unhandled}
 use Rattle.attribute.specs.ByTable.{known}
 use Rattle.value.specs.declared.Value.{Value}
@@ -59,7 +60,7 @@ fixed-kind w k s other = by (ltb (length s) w)
 
 module _ (s : List ℕ) (r : Read) where
   -- another kind is no Address
-  pub no-address : (v : rfc.Value) → readAs r ≡ v → eqb (v .kind) address ≡ false → Shows v s r
+  pub no-address : (v : values.Value) → readAs r ≡ v → eqb (v .kind) address ≡ false → Shows v s r
   unfolding readAs
   no-address v e other = record { value = e; address = λ a is. absurd (eqb-false (v .kind) address other (cc)) }
 
@@ -95,15 +96,15 @@ module _ (s : List ℕ) (r : Read) where
   ipv6 room made = an-address V6 made (rw (le-ltb _ _ room))
 
   -- one of the kinds of numbers, in the words of `Value::new`
-  module _ (asAddress : List ℕ → rfc.Value) where
+  module _ (asAddress : List ℕ → values.Value) where
     abbrev Number : ℕ → ℕ → Type 0
     Number w k = readAs r ≡ fixed w k s → Shows (newValue asAddress (known k) s) s r
 
     pub number-32 : (k : ℕ) → OneOf kinds32 k → Number 4 k
-    unfolding newValue rfc.dataAs
+    unfolding newValue dataAs
     number-32 =
         of-one (Number 4) kinds32 (a-number 4 _ refl, (a-number 4 _ refl, (a-number 4 _ refl, (a-number 4 _ refl, (a-number 4 _ refl, tt)))))
 
     pub number-64 : (k : ℕ) → OneOf kinds64 k → Number 8 k
-    unfolding newValue rfc.dataAs
+    unfolding newValue dataAs
     number-64 = of-one (Number 8) kinds64 (a-number 8 _ refl, (a-number 8 _ refl, (a-number 8 _ refl, tt)))

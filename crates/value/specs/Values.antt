@@ -9,7 +9,8 @@ use Rattle.rfc3629.specs.declared.Utf8.{Utf8}
 use Rattle.rfc3629.specs.declared.Utf8.the-variants.{WellFormed, ValidUpTo}
 use Rattle.flags.specs.Flags.{dataValue}
 use Rattle.record.specs.Kinds as kinds
-use Rattle.rfc6733.specs.Value as rfc
+use Rattle.record.specs.Value as values
+use Rattle.rfc6733.specs.Value.{dataAs}
 use Rattle.rfc6733.specs.Records.{tiling}
 use Rattle.value.specs.declared.Value.{Value}
 use Rattle.value.specs.declared.Value.the-variants.{Unhandled, OctetString, Integer32, Integer64, Unsigned32, Unsigned64, Float32, Float64, Grouped, Enumerated, UTF8String, DiameterIdentity, DiameterURI, Address, Time}
@@ -68,8 +69,8 @@ textErrors WellFormed = 0
 textErrors (ValidUpTo n) = dataValue
 
 -- what a value of the code shows
-unfoldable pub readAs : Read → rfc.Value
-readAs r = rfc.value (kindOf (r .value)) (r .errors) (numberOf (r .value))
+unfoldable pub readAs : Read → values.Value
+readAs r = values.value (kindOf (r .value)) (r .errors) (numberOf (r .value))
 
 -- an IPv6 address takes 16 bytes. Fewer hold an IPv4 address, whose number is n
 abbrev pub addressOf : List ℕ → ℕ → IpAddr
@@ -77,13 +78,13 @@ addressOf s n = cond (ltb (length s) 16) (V4 n) V6
 
 -- r is the value v of the data s. Kind and number do not tell 0.0.0.0 from an IPv6 address, so that of an Address it is said which
 -- address it is
-pub record Shows (v : rfc.Value) (s : List ℕ) (r : Read) : Type 0 where
+pub record Shows (v : values.Value) (s : List ℕ) (r : Read) : Type 0 where
   pub value : readAs r ≡ v
   pub address : (a : IpAddr) → r .value ≡ Address a → a ≡ addressOf s (v .number)
 
 -- data as the kind k, an Address as a dictionary has it. Of a group it is only asked whether its members tile: their flags are their own
-unfoldable pub newValue : (List ℕ → rfc.Value) → ℕ → List ℕ → rfc.Value
+unfoldable pub newValue : (List ℕ → values.Value) → ℕ → List ℕ → values.Value
 newValue asAddress k s =
     cond (eqb k kinds.grouped)
-    (cond (tiling s) (rfc.value kinds.grouped 0 0) (rfc.value kinds.unhandled dataValue 0))
-    (rfc.dataAs asAddress k s)
+    (cond (tiling s) (values.value kinds.grouped 0 0) (values.value kinds.unhandled dataValue 0))
+    (dataAs asAddress k s)

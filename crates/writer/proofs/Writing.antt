@@ -22,7 +22,7 @@ use Rattle.round_trip.specs.Tables.{run}
 use Rattle.round_trip.proofs.Rules.{keepers-valid, keepers-most}
 use Rattle.round_trip.proofs.Kept.{valid-kept}
 use Rattle.round_trip.proofs.Lengths.{long, total-size}
-use Rattle.round_trip.proofs.Tables.{table-length}
+use Rattle.record.proofs.Tables.{table-length}
 use Rattle.round_trip.proofs.Written.{writable-written}
 use Rattle.writer.specs.declared.emit.Taken.{Taken}
 use Rattle.writer.specs.Emitting.{Done}

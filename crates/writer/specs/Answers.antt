@@ -2,6 +2,7 @@
 use Prim.Native.Nat.{ℕ}
 use mathlib.Core.List.{List}
 use Rattle.refusal.specs.Answer.{Answer, accepted, refused}
+use Rattle.record.specs.Store.{output}
 use Rattle.rfc6733.specs.Writer as definition
 use Rattle.writer.specs.declared.Fields.{Fields}
 use Rattle.writer.specs.declared.Written.{Written}
@@ -16,4 +17,4 @@ answerOf (Refused r) = refused r
 
 -- the output afterwards
 abbrev pub outputAfter : definition.Fields → List ℕ → List ℕ → List ℕ → Written → List ℕ
-outputAfter f table pool out r = definition.output (answerOf r) (definition.tableBytes f table pool) out
+outputAfter f table pool out r = output (answerOf r) (definition.tableBytes f table pool) out

@@ -16,7 +16,7 @@ use Rattle.attribute.specs.Attributes.{dictionary}
 use Rattle.diameter.specs.declared.Decoded.{Decoded}
 use Rattle.diameter.specs.Answers.{messageAs, answerOf}
 use Rattle.rfc6733.specs.Dump.{refusalText}
-use Rattle.round_trip.proofs.Packed.{bytes-take}
+use Rattle.octets.proofs.Held.{bytes-take}
 use Rattle.lines.proofs.Dumps.{front-is, Text, text-put, refused-text, Stored, accepted-text}
 use Rattle.lines.proofs.dump.Statement.{statement}
 use Rattle.lines.proofs.dump.Tie as tie

@@ -13,6 +13,7 @@ use Rattle.rfc3629.proofs.check.Reads as check
 use Rattle.rfc3629.proofs.is_utf8.Reads as is-utf8
 use Rattle.record.specs.Record.{Record}
 use Rattle.record.proofs.Record.put.Reads as put
+use Rattle.record.proofs.clear.Reads as clear
 use Rattle.avps.specs.declared.Filled.{Filled}
 use Rattle.avps.proofs.parse_avps.Reads as parse-avps
 use Rattle.diameter.specs.declared.Decoded.{Decoded}
@@ -55,6 +56,9 @@ IsUtf8 κs s r = is-utf8.Post κs (s, tt) r (s, tt)
 
 abbrev pub RecordPut : Lfts 1 → Record → Slice → Bool → Slice → Type 0
 RecordPut κs self store r store′ = put.Post κs (self, (store, tt)) r (self, (store′, tt))
+
+abbrev pub Clear : Lfts 1 → Slice → Slice → Type 0
+Clear κs store store′ = clear.Post κs (store, tt) tt (store′, tt)
 
 abbrev pub ParseAvps : Lfts 3 → Dictionary → Slice → ℕ → Slice → ℕ → Slice → Filled → Slice → Type 0
 ParseAvps κs d kinds limit s place store r store′ =

@@ -10,7 +10,7 @@ use borrow.Author.Needs.{needs}
 use Rattle.octets.proofs.Lists.{rest}
 use Rattle.rfc6733.specs.Writer as definition
 use Rattle.record.specs.Table.{tableOf}
-use Rattle.rfc6733.specs.Writer.{output}
+use Rattle.record.specs.Store.{output}
 use Rattle.round_trip.specs.Rules.{Valid}
 use Rattle.round_trip.specs.Tables.{run}
 use Rattle.writer.specs.Answers.{fieldsAs, answerOf}

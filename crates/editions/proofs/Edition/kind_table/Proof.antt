@@ -6,10 +6,10 @@ use native.Mathlib.Omega.{arith}
 use lib.ListN.{length, take, drop, replicate}
 use borrow.Author.Needs.{needs}
 use borrow.Rule.Slice.PartMut.{midOf, putMid}
-use Rattle.rfc6733.specs.Dictionary.{Row, kindIn, rfc}
+use Rattle.rfc6733.specs.Dictionary.{rfc}
+use Rattle.record.specs.Rows.{Row, kindIn, table}
 use Rattle.rfc6733.specs.CreditControl.{avps4006, avps8506, rfc4006, rfc8506}
 use Rattle.attribute.specs.Attributes as base
-use Rattle.attribute.specs.Tables.{table}
 use Rattle.attribute.specs.declared.Reading.the-variants.{Rfc}
 use Rattle.editions.specs.declared.Edition.the-variants.{Rfc4006}
 use Rattle.editions.specs.Editions.{dictionary, kindTable}

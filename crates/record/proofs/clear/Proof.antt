@@ -6,8 +6,8 @@ use native.Mathlib.Omega.{arith}
 use lib.ListN.{length, drop, set, replicate, length-set, drop-of-length-le}
 use borrow.Author.Needs.{needs}
 use borrow.Author.Fill.{fill-more}
-use Rattle.avps.proofs.clear.Statement.{statement}
-use Rattle.avps.proofs.clear.Tie as tie
+use Rattle.record.proofs.clear.Statement.{statement}
+use Rattle.record.proofs.clear.Tie as tie
 
 abbrev Inv-loop : tie.InvT-loop
 Inv-loop store₀ i₀ store i = (i ≤ length store₀) × (length store ≡ length store₀) × (store ≡ replicate i 0 ++ drop i store₀)

@@ -10,11 +10,10 @@ use lib.Seq.{drop-at, drop-drop}
 use Rattle.octets.specs.Octets.{be, Field, field, pack, widths, Bytes, unpack}
 use Rattle.octets.proofs.Numbers.{read-field}
 use Rattle.octets.proofs.Layouts.{unpack-low, low-fit, unpack-fits, fit-at}
 use Rattle.record.specs.Record.{Record, recordSize, recordLayout, recordBytes, recordAt, laid}
-use Rattle.record.specs.Table.{bare, entryAt, recordsIn, tableOf, Every}
+use Rattle.record.specs.Table.{bare, entryAt, recordsIn, tableOf, Every, Fits, AllFit}
 use Rattle.record.proofs.Layouts.{record-length}
-use Rattle.round_trip.specs.Tables.{Fits, AllFit}
-use Rattle.round_trip.proofs.Packed.{bytes-drop}
+use Rattle.octets.proofs.Held.{bytes-drop}
 
 pub table-none : (s : List ℕ) → length s < recordSize → tableOf s ≡ []
 unfolding tableOf recordsIn
