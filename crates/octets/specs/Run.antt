@@ -1,5 +1,5 @@
 -- A run of items that lie end to end in a list of bytes, read as a tree. What an item is, is a parameter: a character of
--- UTF-8 (RFC 3629) and an AVP of Diameter (RFC 6733) are two kinds of item.
+-- UTF-8 (RFC 3629), an AVP of Diameter (RFC 6733) and an attribute of RADIUS (RFC 2865) are three kinds of item.
 use Prim.Native.Nat.{ℕ, zero, suc, _+_, max}
 use mathlib.Core.Bool.{Bool, true, false}
 use mathlib.Core.List.{List, [], _∷_, _++_}
@@ -80,3 +80,10 @@ covered done = []
 covered broken = []
 covered (plain a rest) = a ++ covered rest
 covered (group a inner rest) = a ++ covered rest
+
+-- those items, with nothing of what is inside them
+abbrev pub items : Tree → List (List ℕ)
+items done = []
+items broken = []
+items (plain a rest) = a ∷ items rest
+items (group a inner rest) = a ∷ items rest

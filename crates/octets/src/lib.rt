@@ -44,6 +44,13 @@ pub fn be_u64(a: u8, b: u8, c: u8, d: u8, e: u8, f: u8, g: u8, h: u8) -> u64
     (((high * 256 + wide64(e)) * 256 + wide64(f)) * 256 + wide64(g)) * 256 + wide64(h)
 }
 
+// The lowest two bytes of a number.
+pub fn to_be_u16(v: u32) -> [u8; 2]
+    ensures { λ r. ⌜ r ≡ octets 2 v ⌝ }
+{
+    [(v / 256 % 256) as u8, (v % 256) as u8]
+}
+
 // The lowest three bytes of a number.
 pub fn to_be_u24(v: u32) -> [u8; 3]
     ensures { λ r. ⌜ r ≡ octets 3 v ⌝ }

@@ -11,3 +11,4 @@ pub mod UnitValues
 pub mod Utf8
 pub mod Times
 pub mod Broken
+pub mod Packets

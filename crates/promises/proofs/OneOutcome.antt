@@ -13,12 +13,14 @@ use Rattle.attribute.specs.declared.Dictionary.{Dictionary}
 use Rattle.record.specs.Record.{Record}
 use Rattle.reader.specs.declared.Reader.{Reader}
 use Rattle.writer.specs.declared.Fields.{Fields}
-use Rattle.promises.proofs.OneOutcome.Calls.{Slice, RecordPut, Clear, ParseAvps, Parse, ParseAvp, ParseBy, ParseAvpBy, Dump, Write, TandrekilyMessage, TandrekilyHeader, TandrekilyAvp, TandrekilyMessageBy, TandrekilyAvpBy, TandrekilyFind, TandrekilyNext, TandrekilyWrite, TandrekilyCompare}
+use Rattle.radius_writer.specs.declared.Fields as packet
+use Rattle.promises.proofs.OneOutcome.Calls.{Slice, RecordPut, Clear, ParseAvps, Parse, ParseAvp, ParseBy, ParseAvpBy, Dump, Write, TandrekilyMessage, TandrekilyHeader, TandrekilyAvp, TandrekilyMessageBy, TandrekilyAvpBy, TandrekilyFind, TandrekilyNext, TandrekilyWrite, TandrekilyCompare, ParsePacket, WritePacket, TandrekilyRadius, TandrekilyRadiusWrite}
 use Rattle.promises.proofs.OneOutcome.ByHand.{ReaderNew, ReaderNext, ReaderFind}
 use Rattle.octets.proofs.be_u16.Reads as be-u16
 use Rattle.octets.proofs.be_u24.Reads as be-u24
 use Rattle.octets.proofs.be_u32.Reads as be-u32
 use Rattle.octets.proofs.be_u64.Reads as be-u64
+use Rattle.octets.proofs.to_be_u16.Reads as to-be-u16
 use Rattle.octets.proofs.to_be_u24.Reads as to-be-u24
 use Rattle.octets.proofs.to_be_u32.Reads as to-be-u32
 use Rattle.octets.proofs.to_be_u64.Reads as to-be-u64
@@ -74,6 +76,7 @@ use Rattle.count.proofs.allowed.Reads as allowed
 use Rattle.count.proofs.count_run.Reads as count-run
 use Rattle.rules.proofs.header_size.Reads as record-header-size
 use Rattle.rules.proofs.keepers.Reads as keepers
+use Rattle.radius.proofs.types.kind.Reads as type-kind
 use Rattle.tandrekily.proofs.tandrekily_is_utf8.Reads as tandrekily-is-utf8
 use Rattle.tandrekily.proofs.tandrekily_utf8.Reads as tandrekily-utf8
 use Rattle.tandrekily.proofs.tandrekily_unix_seconds.Reads as tandrekily-unix-seconds
@@ -88,6 +91,8 @@ use Rattle.count.proofs.AnswerOf as count-answers
 use Rattle.avps.proofs.AnswerOf as avps-answers
 use Rattle.diameter.proofs.AnswerOf as diameter-answers
 use Rattle.writer.proofs.AnswerOf as writer-answers
+use Rattle.radius.proofs.AnswerOf as packet-answers
+use Rattle.radius_writer.proofs.AnswerOf as packet-writer-answers
 
 -- One outcome, where a function lends nothing that it may change: two results that meet the contract are the same. The arguments
 -- stand with the lifetimes of the call, and with the parameters at exit.
@@ -116,6 +121,9 @@ be-u32-one κs a r r′ s p q = p .is ∙ sym (q .is)
 
 be-u64-one : Single be-u64.Post
 be-u64-one κs a r r′ s p q = p .is ∙ sym (q .is)
+
+to-be-u16-one : Single to-be-u16.Post
+to-be-u16-one κs a r r′ s p q = p ∙ sym q
 
 to-be-u24-one : Single to-be-u24.Post
 to-be-u24-one κs a r r′ s p q = p ∙ sym q
@@ -385,6 +393,25 @@ write-one κs fields table pool out r r′ after after′ p q =
     let at-exit′ = q .1 in
     (e, cc)
 
+-- ---- radius and radius_writer
+
+type-kind-one : Single type-kind.Post
+type-kind-one κs a r r′ s p q = p ∙ sym q
+
+parse-packet-one : (κs : Lfts 2) (input store : Slice) → Settled (ParsePacket κs input store)
+parse-packet-one κs input store r r′ after after′ p q =
+    let e = packet-answers.answer-of-injective r r′ (p .0 ∙ sym (q .0)) (p .1 .0 ∙ sym (q .1 .0)) in
+    let at-exit = p .1 .1 in
+    let at-exit′ = q .1 .1 in
+    (e, cc)
+
+write-packet-one : (κs : Lfts 3) (fields : packet.Fields) (table pool out : Slice) → Settled (WritePacket κs fields table pool out)
+write-packet-one κs fields table pool out r r′ after after′ p q =
+    let e = packet-writer-answers.answer-of-injective r r′ (p .0 ∙ sym (q .0)) in
+    let at-exit = p .1 in
+    let at-exit′ = q .1 in
+    (e, cc)
+
 -- ---- tandrekily
 
 tandrekily-message-one : (κs : Lfts 3) (rfc : Bool) (limit : ℕ) (input store result : Slice)
@@ -436,3 +463,13 @@ tandrekily-integer64-one κs a r r′ s p q = p ∙ sym q
 tandrekily-compare-one : (κs : Lfts 1) (digits exponent otherDigits otherExponent : ℤ) (order : RefT ℤ)
     → Settled (TandrekilyCompare κs digits exponent otherDigits otherExponent order)
 tandrekily-compare-one κs digits exponent otherDigits otherExponent order r r′ after after′ p q = (p .0 ∙ sym (q .0), p .1 ∙ sym (q .1))
+
+tandrekily-radius-one : (κs : Lfts 4) (input store authenticator result : Slice) (after after′ given given′ told told′ : Slice)
+    → TandrekilyRadius κs input store authenticator result after given told → TandrekilyRadius κs input store authenticator result after′ given′ told′
+    → (now after ≡ now after′) × (now given ≡ now given′) × (now told ≡ now told′)
+tandrekily-radius-one κs input store authenticator result after after′ given given′ told told′ p q =
+    (p .1 .1 ∙ sym (q .1 .1), p .1 .0 ∙ sym (q .1 .0), p .0 ∙ sym (q .0))
+
+tandrekily-radius-write-one : (κs : Lfts 5) (code identifier : ℕ) (authenticator table pool out result : Slice)
+    → BothSettled (TandrekilyRadiusWrite κs code identifier authenticator table pool out result)
+tandrekily-radius-write-one κs code identifier authenticator table pool out result _ _ _ _ p q = (p .1 ∙ sym (q .1), p .0 ∙ sym (q .0))

@@ -23,8 +23,15 @@ use Rattle.writer.specs.declared.Fields.{Fields}
 use Rattle.writer.specs.declared.Written.the-variants as writer
 use Rattle.writer.specs.Answers as writer-answers
 use Rattle.unit_value.specs.declared.Ordering.{Ordering}
+use Rattle.rfc2865.specs.Packet.{Packet}
+use Rattle.radius.specs.declared.Decoded.the-variants as radius
+use Rattle.radius.specs.Answers as radius-answers
+use Rattle.radius_writer.specs.declared.Fields as packet
+use Rattle.radius_writer.specs.declared.Written.the-variants as packet-writer
+use Rattle.radius_writer.specs.Answers as packet-writer-answers
+use Rattle.tandrekily.specs.Packets as packets
 use Rattle.tandrekily.specs.Results.{messageResult, avpResult, writtenResult, numberShown, orderShown}
-use Rattle.promises.proofs.OneOutcome.Calls.{Slice, Parse, ParseAvp, ParseBy, ParseAvpBy, Write, TandrekilyMessage, TandrekilyAvp, TandrekilyMessageBy, TandrekilyAvpBy, TandrekilyWrite, TandrekilyCompare}
+use Rattle.promises.proofs.OneOutcome.Calls.{Slice, Parse, ParseAvp, ParseBy, ParseAvpBy, Write, TandrekilyMessage, TandrekilyAvp, TandrekilyMessageBy, TandrekilyAvpBy, TandrekilyWrite, TandrekilyCompare, ParsePacket, WritePacket, TandrekilyRadius, TandrekilyRadiusWrite}
 
 -- ---- in Rattle: the answer is a refusal
 
@@ -52,6 +59,16 @@ pub write-refusal-changes-nothing : (κs : Lfts 3) (fields : Fields) (table pool
     → Write κs fields table pool out (writer.Refused why) out′ → now out′ ≡ now out
 unfolding writer-answers.answerOf output
 write-refusal-changes-nothing κs fields table pool out why out′ p = p .1
+
+pub parse-packet-refusal-changes-nothing : (κs : Lfts 2) (input store : Slice) (why : Refusal) (authenticator : List ℕ) (store′ : Slice)
+    → ParsePacket κs input store (record { decoded = radius.Refused why; authenticator = authenticator }) store′ → now store′ ≡ now store
+unfolding radius-answers.answerWith stored
+parse-packet-refusal-changes-nothing κs input store why authenticator store′ p = p .1 .1
+
+pub write-packet-refusal-changes-nothing : (κs : Lfts 3) (fields : packet.Fields) (table pool out : Slice) (why : Refusal) (out′ : Slice)
+    → WritePacket κs fields table pool out (packet-writer.Refused why) out′ → now out′ ≡ now out
+unfolding packet-writer-answers.answerOf output
+write-packet-refusal-changes-nothing κs fields table pool out why out′ p = p .1
 
 -- ---- in the library: the number, the first of the result, is not 0
 
@@ -108,3 +125,28 @@ pub tandrekily-compare-refusal-changes-nothing : (κs : Lfts 1) (digits exponent
     → TandrekilyCompare κs digits exponent otherDigits otherExponent order r order′ → 1 ≤ r → now order′ ≡ now order
 tandrekily-compare-refusal-changes-nothing κs digits exponent otherDigits otherExponent order r order′ p h =
     p .1 ∙ order-lent _ _ (rw (p .0) at h)
+
+-- ---- in the library, RADIUS: of the store and of the authenticator
+
+packet-store : (x : Answer Packet) (rs : List Record) (store : List ℕ) → 1 ≤ number (packets.packetResult x) → stored x rs store ≡ store
+unfolding packets.packetResult stored
+packet-store x rs store = lent-unless-0 packets.packetResult (λ y. stored y rs store) store (λ p. refl) (λ why. refl) x
+
+authenticator-lent : (x : Answer Packet) (lent : List ℕ) → 1 ≤ number (packets.packetResult x) → packets.authenticatorAfter x lent ≡ lent
+unfolding packets.packetResult packets.authenticatorAfter
+authenticator-lent x lent = lent-unless-0 packets.packetResult (λ y. packets.authenticatorAfter y lent) lent (λ p. refl) (λ why. refl) x
+
+packet-out : (x : Answer ℕ) (bytes out : List ℕ) → 1 ≤ number (packets.writtenResult x) → output x bytes out ≡ out
+unfolding packets.writtenResult output
+packet-out x bytes out = lent-unless-0 packets.writtenResult (λ y. output y bytes out) out (λ total. refl) (λ why. refl) x
+
+pub tandrekily-radius-refusal-changes-nothing : (κs : Lfts 4) (input store authenticator result store′ authenticator′ result′ : Slice)
+    → TandrekilyRadius κs input store authenticator result store′ authenticator′ result′ → 1 ≤ number (now result′)
+    → (now store′ ≡ now store) × (now authenticator′ ≡ now authenticator)
+tandrekily-radius-refusal-changes-nothing κs input store authenticator result store′ authenticator′ result′ p h =
+    let refuses = rw (p .0) at h in (p .1 .1 ∙ packet-store _ _ _ refuses, p .1 .0 ∙ authenticator-lent _ _ refuses)
+
+pub tandrekily-radius-write-refusal-changes-nothing : (κs : Lfts 5) (code identifier : ℕ) (authenticator table pool out result out′ result′ : Slice)
+    → TandrekilyRadiusWrite κs code identifier authenticator table pool out result out′ result′ → 1 ≤ number (now result′) → now out′ ≡ now out
+tandrekily-radius-write-refusal-changes-nothing κs code identifier authenticator table pool out result out′ result′ p h =
+    p .1 ∙ packet-out _ _ _ (rw (p .0) at h)

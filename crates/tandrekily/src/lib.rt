@@ -1,5 +1,7 @@
 // The library for C and Rust: each public way to decode and to write, over numbers and byte slices, by the C calling convention.
 // This crate knows how an answer is laid out as numbers, and nothing of how it comes about.
+pub mod packets;
+
 use attribute::Reading;
 use avps::Counts;
 use avps::Filled;

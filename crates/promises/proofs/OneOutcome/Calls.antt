@@ -31,6 +31,13 @@ use Rattle.reader.proofs.find.Reads as find
 use Rattle.writer.specs.declared.Fields.{Fields}
 use Rattle.writer.specs.declared.Written.{Written}
 use Rattle.writer.proofs.write.Reads as write
+use Rattle.radius.specs.declared.Parsed.{Parsed}
+use Rattle.radius.proofs.parse.Reads as parse-packet
+use Rattle.radius_writer.specs.declared.Fields as packet-fields
+use Rattle.radius_writer.specs.declared.Written as packet-written
+use Rattle.radius_writer.proofs.write.Reads as write-packet
+use Rattle.tandrekily.proofs.packets.tandrekily_radius.Reads as tandrekily-radius
+use Rattle.tandrekily.proofs.packets.tandrekily_radius_write.Reads as tandrekily-radius-write
 use Rattle.tandrekily.proofs.tandrekily_message.Reads as tandrekily-message
 use Rattle.tandrekily.proofs.tandrekily_header.Reads as tandrekily-header
 use Rattle.tandrekily.proofs.tandrekily_avp.Reads as tandrekily-avp
@@ -137,3 +144,21 @@ TandrekilyUtf8 κs text r = tandrekily-utf8.Post κs (text, tt) r (text, tt)
 
 abbrev pub TandrekilyUnixSeconds : ℕ → ℤ → Type 0
 TandrekilyUnixSeconds time r = tandrekily-unix-seconds.Post tt (time, tt) r (time, tt)
+
+-- ---- RADIUS
+
+abbrev pub ParsePacket : Lfts 2 → Slice → Slice → Parsed → Slice → Type 0
+ParsePacket κs input store r store′ = parse-packet.Post κs (input, (store, tt)) r (input, (store′, tt))
+
+abbrev pub WritePacket : Lfts 3 → packet-fields.Fields → Slice → Slice → Slice → packet-written.Written → Slice → Type 0
+WritePacket κs fields table pool out r out′ =
+    write-packet.Post κs (fields, (table, (pool, (out, tt)))) r (fields, (table, (pool, (out′, tt))))
+
+abbrev pub TandrekilyRadius : Lfts 4 → Slice → Slice → Slice → Slice → Slice → Slice → Slice → Type 0
+TandrekilyRadius κs input store authenticator result store′ authenticator′ result′ =
+    tandrekily-radius.Post κs (input, (store, (authenticator, (result, tt)))) tt (input, (store′, (authenticator′, (result′, tt))))
+
+abbrev pub TandrekilyRadiusWrite : Lfts 5 → ℕ → ℕ → Slice → Slice → Slice → Slice → Slice → Slice → Slice → Type 0
+TandrekilyRadiusWrite κs code identifier authenticator table pool out result out′ result′ =
+    tandrekily-radius-write.Post κs (code, (identifier, (authenticator, (table, (pool, (out, (result, tt))))))) tt
+    (code, (identifier, (authenticator, (table, (pool, (out′, (result′, tt)))))))

@@ -1,0 +1,69 @@
+-- What the reader's functions answer, as answers of the definition.
+use Prim.Native.Nat.{ℕ}
+use mathlib.Core.Path.{_≡_}
+use mathlib.Core.Bool.{cond}
+use mathlib.Core.List.{List}
+use lib.ListN.{length, replicate}
+use Rattle.octets.specs.Run.{Tree, tiles, items}
+use Rattle.refusal.specs.Answer.{Answer, accepted, refused, answer}
+use Rattle.record.specs.Value as values
+use Rattle.rfc2865.specs.Attribute.{attributeLength, complete}
+use Rattle.rfc2865.specs.Packet as definition
+use Rattle.rfc2865.specs.Packet.{authenticatorSize, packetLength, headerRefusals}
+use Rattle.radius.specs.declared.attributes.First.{First}
+use Rattle.radius.specs.declared.attributes.First.the-variants as first
+use Rattle.radius.specs.declared.attributes.Counted.{Counted}
+use Rattle.radius.specs.declared.attributes.Counted.the-variants as counted
+use Rattle.radius.specs.declared.value.Value.{Value}
+use Rattle.radius.specs.declared.Measured.{Measured}
+use Rattle.radius.specs.declared.Measured.the-variants as measured
+use Rattle.radius.specs.declared.Packet.{Packet}
+use Rattle.radius.specs.declared.Decoded.{Decoded}
+use Rattle.radius.specs.declared.Decoded.the-variants.{Accepted, Refused}
+use Rattle.radius.specs.declared.Parsed.{Parsed}
+
+-- ---- attributes
+
+unfoldable pub firstOf : List ℕ → First
+firstOf s = cond (complete s) (first.Whole (attributeLength s)) first.Broken
+
+unfoldable pub countOf : Tree → Counted
+countOf t = cond (tiles t) (counted.Tiled (length (items t))) counted.Broken
+
+unfoldable pub valueAs : Value → values.Value
+valueAs v = record { kind = v .kind; errors = v .errors; number = v .number }
+
+-- ---- the header
+
+unfoldable pub lengthOf : Measured → Answer ℕ
+lengthOf (measured.Length n) = accepted n
+lengthOf (measured.Refused why) = refused why
+
+unfoldable pub measuredOf : List ℕ → Answer ℕ
+measuredOf s = answer (headerRefusals s) (packetLength s)
+
+-- n is the length of a packet whose header was accepted
+pub record Measures (n : ℕ) (s : List ℕ) : Type 0 where
+  pub is : measuredOf s ≡ accepted n
+
+-- ---- the packet
+
+-- with this authenticator
+unfoldable pub packetAs : List ℕ → Packet → definition.Packet
+packetAs authenticator p =
+    record {
+      header = record { code = p .code; identifier = p .identifier; authenticator = authenticator };
+      counts = record { errors = p .errors; records = p .records; tried = p .tried; length = p .length };
+    }
+
+unfoldable pub answerWith : List ℕ → Decoded → Answer definition.Packet
+answerWith authenticator (Accepted p) = accepted (packetAs authenticator p)
+answerWith authenticator (Refused why) = refused why
+
+abbrev pub answerOf : Parsed → Answer definition.Packet
+answerOf r = answerWith (r .authenticator) (r .decoded)
+
+-- what stands for the authenticator where there is none
+unfoldable pub authenticatorOf : Answer definition.Packet → List ℕ
+authenticatorOf (accepted p) = p .header .authenticator
+authenticatorOf (refused why) = replicate authenticatorSize 0

@@ -1,0 +1,7 @@
+pub mod AnswerOf
+mod Keeping
+mod Lengths
+mod Parts
+mod Runs
+mod Sizes
+mod Writing

@@ -1,0 +1,4 @@
+pub mod Answers
+pub mod Rules
+pub mod Sizing
+pub mod Emitting

@@ -1,0 +1,13 @@
+pub mod Items
+pub mod Tried
+pub mod Accepted
+pub mod Rules
+pub mod Written
+pub mod Lengths
+pub mod Packets
+pub mod AttributeTrip
+pub mod RunTrip
+pub mod RoundTrip
+pub mod ReadBack
+pub mod Bound
+pub mod Whole
