@@ -24,15 +24,17 @@ TYPED = re.compile(r'<avp\s([^>]*)>\s*<(?:grouped|type type-name="([^"]*)")')
 
 def packet(number, message):
     ports = (FIRST_PORT + number).to_bytes(2, "big") + DIAMETER_PORT.to_bytes(2, "big")
-    segment = ports + bytes.fromhex("00000001 00000001 5018 ffff 0000 0000") + message
-    head = bytes.fromhex("4500") + (20 + len(segment)).to_bytes(2, "big") + bytes.fromhex("0000 0000 4006 0000 0a000001 0a000002")
-    return head + segment
+    return ip(6, ports + bytes.fromhex("00000001 00000001 5018 ffff 0000 0000") + message)
 
 
-def pcap(messages):
+def ip(protocol, data):
+    head = bytes.fromhex("4500") + (20 + len(data)).to_bytes(2, "big") + bytes.fromhex("0000 0000 40") + bytes([protocol])
+    return head + bytes.fromhex("0000 0a000001 0a000002") + data
+
+
+def pcap(packets):
     out = bytes.fromhex("a1b2c3d4 0002 0004 00000000 00000000 00040000") + RAW_IP.to_bytes(4, "big")
-    for number, message in enumerate(messages):
-        data = packet(number, message)
+    for number, data in enumerate(packets):
         out += number.to_bytes(4, "big") + bytes(4) + 2 * len(data).to_bytes(4, "big") + data
     return out
 
@@ -49,19 +51,23 @@ def version():
 
 def trees(messages):
     """tshark's tree of each message, or None where it saw no Diameter or stopped in it."""
-    out = tshark("-n", "-r", "-", "-d", f"tcp.port=={DIAMETER_PORT},diameter", "-T", "pdml", given=pcap(messages))
-    return [tree_of(packet) for packet in ElementTree.fromstring(out)]
+    out = tshark("-n", "-r", "-", "-d", f"tcp.port=={DIAMETER_PORT},diameter", "-T", "pdml", given=pcap([packet(*given) for given in enumerate(messages)]))
+    return [tree_of(shown, "diameter") for shown in ElementTree.fromstring(out)]
 
 
-def tree_of(packet):
-    found = {proto.get("name"): proto for proto in packet.findall("proto")}
-    return None if "_ws.malformed" in found else found.get("diameter")
+def tree_of(shown, protocol):
+    found = {proto.get("name"): proto for proto in shown.findall("proto")}
+    return None if "_ws.malformed" in found else found.get(protocol)
+
+
+def folder():
+    """Where tshark has its dictionaries."""
+    return re.search(r"^Global configuration:\s*(.*)$", tshark("-G", "folders").decode(), re.MULTILINE)[1]
 
 
 def types(codes):
     """The type of each code in tshark's own dictionary, without a vendor."""
-    folder = re.search(r"^Global configuration:\s*(.*)$", tshark("-G", "folders").decode(), re.MULTILINE)[1]
-    text = "".join(Path(folder, "diameter", name).read_text("utf-8") for name in DICTIONARIES)
+    text = "".join(Path(folder(), "diameter", name).read_text("utf-8") for name in DICTIONARIES)
     found = {}
     for words, name in TYPED.findall(re.sub(r"<!--.*?-->", "", text, flags=re.DOTALL)):
         code = int(re.search(r'code="(\d+)"', words)[1])

@@ -1,14 +1,18 @@
 """Makes cases from a seed, a line each as in cases.txt: python3 oracle/made.py SEED COUNT, of the RFC reading, or, with a word behind it, others: `search` for
-searches and steps, which know no reading, `edition` for messages and AVPs by an edition, `compare` for comparisons.
+searches and steps, which know no reading, `edition` for messages and AVPs by an edition, `compare` for comparisons, `radius` for packets of RADIUS, read and
+to be written.
 
 Messages are laid out as RFC 6733 sections 3 and 4 say, with the codes of docs/FORMAT.md and a few others, text at the edges of RFC 3629's ranges, and
-Address data of several families. Some are then damaged: a length, a byte, the end.
+Address data of several families. Some are then damaged: a length, a byte, the end. Packets are laid out as RFC 2865 sections 3 and 5 say, and damaged too;
+a table of a packet to be written is what the model reads of one, whole or with a byte of a record, the end of the table or that of the bytes altered.
 """
 import random
 import sys
 
-from model import EDITIONS, KIND
+from model import EDITIONS, KIND, RADIUS, SPARE, Refused, packet
 
+# types of RADIUS, those of text more often, and some that neither RFC has
+TYPES = [*sorted(RADIUS), *(11, 18, 22, 44) * 4, 0, 17, 21, 52, 59, 64, 128, 255]
 # of Value-Digits, 64 bits with a sign
 LARGEST = 2**63 - 1
 
@@ -138,7 +142,53 @@ def comparison(r):
     return "compare", *pairs[0], *pairs[1]
 
 
-MAKERS = {"read": read, "search": search, "edition": read_by, "compare": comparison}
+def attribute(r):
+    code = r.choice(TYPES)
+    if RADIUS.get(code) == 10:
+        body = b"".join(r.choices(TEXTS, k=r.randrange(4)))
+    else:
+        body = r.randbytes(r.choice((0, 1, 3, 4, 4, 4, 4, 5, 6, 16, r.randrange(254))))
+    length = 2 + len(body)
+    if r.random() < 0.02:
+        length = r.choice((0, 1, length - 1, min(length + 1, 255), 255))
+    return bytes([code, length]) + body
+
+
+def radius_packet(r):
+    body = b"".join(attribute(r) for _ in range(r.randrange(8)))
+    length = 20 + len(body) + (r.choice((-20, -2, -1, 1, 2)) if r.random() < 0.05 else 0)
+    if r.random() < 0.03:
+        length = r.choice((0, 19, 20, 4096, 4097, 65535))
+    return r.randbytes(2) + length.to_bytes(2, "big") + r.randbytes(16) + body
+
+
+def altered(r, table, pool):
+    """One byte of a record, or the end of the table or of the bytes."""
+    at = r.randrange(len(table) + 4)
+    if at < len(table):
+        return table[:at] + bytes([r.choice((0, 1, 2, 255, r.randrange(256)))]) + table[at + 1 :], pool
+    if at % 2:
+        return table + r.randbytes(r.randrange(1, 32)), pool
+    return table, pool[: r.randrange(len(pool) + 1)]
+
+
+def radius(r):
+    """A packet to be read, or what was read of one to be written again."""
+    wire = radius_packet(r)
+    try:
+        _, records, need, length = packet(len(wire), wire)
+    except Refused:
+        return "packet", 8, wire.hex()
+    if r.random() < 0.5:
+        return "packet", max(0, need + r.choice((-1, 0, 0, 1))), damaged(r, wire).hex() or "-"
+    table, pool = b"".join(records), wire
+    if r.random() < 0.6:
+        table, pool = altered(r, table, pool)
+    room = (length - SPARE + 31) // 32 - (r.random() < 0.1)
+    return "packet-table", room, (wire[:2] + wire[4:20] + len(table).to_bytes(4, "big") + table + pool).hex()
+
+
+MAKERS = {"read": read, "search": search, "edition": read_by, "compare": comparison, "radius": radius}
 
 
 def main():

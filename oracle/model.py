@@ -1,16 +1,17 @@
-"""A model of the format (docs/FORMAT.md), written from its text and from RFC 6733, RFC 3629, RFC 4006 and RFC 8506, not from our code.
+"""A model of the format (docs/FORMAT.md), written from its text and from RFC 6733, RFC 3629, RFC 4006, RFC 8506, RFC 2865 and RFC 2866. It shares no code with ours.
 
 It answers a case as docs/FORMAT.md says: message, header alone or one AVP alone, in either reading, message or one AVP alone by an edition, a table to be
-written, a search, or a comparison. It is slow and plain on purpose: a search decodes the whole message and looks for the record, and a comparison works
-with fractions. `oracle/run replay` makes with it frames that crates/replay reads and answers that it must write:
+written, a search, a comparison, or a RADIUS packet, read or to be written. It is slow and plain on purpose: a search decodes the whole message and looks
+for the record, and a comparison works with fractions. `oracle/run replay` makes with it frames that crates/replay reads and answers that it must write:
 
     python3 oracle/model.py frames < oracle/cases.txt
     python3 oracle/model.py answers < oracle/cases.txt
 
 A frame: function (0 message, 1 header alone, 2 one AVP, 3 a table to be written, 4 a search, 5 steps, 6 a message by an edition, 7 one AVP by an edition,
-8 a comparison), reading (0 sawp, 1 RFC) and depth limit in a byte each, room in records in 2 bytes, length in 4, and the bytes. An answer: the number in
-a byte and the amount in 4; where the number is 0, the header's 20 bytes (not for one AVP), the flags in a byte, the number of records in 2, headers tried
-in 4, the length in 4; and always the whole store afterwards, which has 5 bytes more than its records take and was lent full of the byte A5.
+8 a comparison, 9 a packet, 10 a packet to be written), reading (0 sawp, 1 RFC) and depth limit in a byte each, room in records in 2 bytes, length in 4,
+and the bytes. An answer: the number in a byte and the amount in 4; where the number is 0, the header's 20 bytes (not for one AVP), the flags in a byte,
+the number of records in 2, headers tried in 4, the length in 4; and always the whole store afterwards, which has 5 bytes more than its records take and
+was lent full of the byte A5.
 
 For a table the bytes are flags in 1, command code, application, hop-by-hop, end-to-end and the table's length in 4 each, the table and the bytes that its
 places point into; the store is the output, and an acceptance answers the total in 4 bytes. For a search the bytes are a code in 4 and a message; an
@@ -20,6 +21,10 @@ level, 1 in a byte, those 20 bytes and the place past it in 4, and then 0, or 2 
 By an edition the bytes are the edition in 4 and the message or AVP, from whose first byte places count; the answer has the form of functions 0 and 2, and
 the reading means nothing. For a comparison they are two Unit-Values, each its Value-Digits in 8 and its Exponent in 4, signed; an acceptance answers 0
 less, 1 equal or 2 greater in a byte, and the store stays as it was lent.
+
+Of a packet of RADIUS an acceptance answers code and identifier in a byte each in place of the header; its authenticator, 16 bytes that are 0 in a refusal,
+stands before the store in any case. For a packet to be written the bytes are code, identifier, authenticator, the table's length in 4, the table and the
+bytes that its places point into; the answer is that for a table. The reading and the depth limit mean nothing for both.
 """
 import re
 import sys
@@ -60,6 +65,14 @@ KINDS_8506 = {
     10: [660, 661, 662, 663, 664, 667, 668],
     13: [666],
 }
+# RFC 2865, sections 5.1 to 5.44, and RFC 2866, sections 5.1 to 5.12. CHAP-Password (3) and Vendor-Specific (26) have formats of their own.
+KINDS_RADIUS = {
+    1: [1, 2, 3, 19, 20, 24, 25, 26, 30, 31, 32, 33, 34, 35, 36, 39, 50, 60, 63],
+    4: [5, 6, 7, 10, 12, 13, 15, 16, 23, 27, 28, 29, 37, 38, 40, 41, 42, 43, 45, 46, 47, 48, 49, 51, 61, 62],
+    10: [11, 18, 22, 44],
+    13: [4, 8, 9, 14],
+}
+SMALLEST_PACKET, LARGEST_PACKET = 20, 4096
 
 
 def by_code(kinds):
@@ -68,6 +81,7 @@ def by_code(kinds):
 
 KIND = by_code(SAWP_KINDS)
 EDITIONS = {4006: by_code(KINDS_4006), 8506: {**by_code(KINDS_4006), **by_code(KINDS_8506)}}
+RADIUS = by_code(KINDS_RADIUS)
 
 
 class Refused(Exception):
@@ -285,6 +299,11 @@ def row(r):
     }
 
 
+def rows_of(table):
+    """The whole ones."""
+    return [row(table[i : i + 32]) for i in range(0, len(table) // 32 * 32, 32)]
+
+
 def keeps(r, allowed, pool):
     if not 1 <= r["depth"] <= 64 or r["depth"] > allowed or r["kind"] > 14:
         return False
@@ -317,7 +336,7 @@ def written(data, room):
     table, pool = data[21 : 21 + size], data[21 + size :]
     if code > 0xFFFFFF:
         raise Refused(BAD_HEADER)
-    rows, allowed = [row(table[i : i + 32]) for i in range(0, len(table) // 32 * 32, 32)], 1
+    rows, allowed = rows_of(table), 1
     for index, r in enumerate(rows):
         if not keeps(r, allowed, pool):
             raise Refused(BAD_TABLE, index)
@@ -333,11 +352,83 @@ def written(data, room):
     return bytes([1]) + total.to_bytes(3, "big") + bytes([flags]) + code.to_bytes(3, "big") + ids + body
 
 
+def packet_value(kind, data):
+    """Kind, error flags and value field of an attribute's data."""
+    if kind == 10:
+        return text(kind, data)
+    if kind in (4, 13):
+        return (kind, 0, be(data)) if len(data) == 4 else (0, DATA_LENGTH, 0)
+    return kind, 0, 0
+
+
+def attributes(data):
+    """The type of each attribute of a packet, where its data stand, and the data."""
+    at = SMALLEST_PACKET
+    while at < len(data):
+        length = be(data[at + 1 : at + 2])
+        if length < 2 or at + length > len(data):
+            raise Refused(NOT_TILED)
+        yield data[at], at + 2, data[at + 2 : at + length]
+        at += length
+
+
+def packet_length(data):
+    if len(data) < 4:
+        raise Refused(INCOMPLETE, 4 - len(data))
+    length = be(data[2:4])
+    if not SMALLEST_PACKET <= length <= LARGEST_PACKET:
+        raise Refused(BAD_LENGTH)
+    if length > len(data):
+        raise Refused(INCOMPLETE, length - len(data))
+    return length
+
+
+def packet(room, data):
+    """Flags, records, tried, length, of a packet of RADIUS."""
+    length, flags, records = packet_length(data), 0, []
+    for code, place, body in attributes(data[:length]):
+        kind, errors, number = packet_value(RADIUS.get(code, 0), body)
+        flags |= errors
+        records.append(
+            code.to_bytes(4, "big") + (2 + len(body)).to_bytes(4, "big") + bytes(4) + place.to_bytes(4, "big")
+            + bytes([1, kind, errors]) + bytes(5) + number.to_bytes(8, "big")
+        )
+    if len(records) > room:
+        raise Refused(NO_RECORDS, len(records))
+    return flags, records, len(records), length
+
+
+def is_attribute(r, pool):
+    """Does a row keep the rules of the writer of packets?"""
+    if r["flags"] or any(r["vendor"]) or r["padding"] or any(r["pads"]) or r["depth"] != 1:
+        return False
+    return be(r["code"]) <= 255 and 2 <= r["length"] <= 255 and r["place"] + r["length"] - 2 <= len(pool)
+
+
+def packet_written(data, room):
+    size = be(data[18:22])
+    table, pool = data[22 : 22 + size], data[22 + size :]
+    rows = rows_of(table)
+    for index, r in enumerate(rows):
+        if not is_attribute(r, pool):
+            raise Refused(BAD_TABLE, index)
+    if len(table) % 32:
+        raise Refused(BAD_TABLE, len(rows))
+    body = b"".join(r["code"][3:] + bytes([r["length"]]) + pool[r["place"] : r["place"] + r["length"] - 2] for r in rows)
+    total = SMALLEST_PACKET + len(body)
+    if total > LARGEST_PACKET:
+        raise Refused(TOO_LONG)
+    if total > room:
+        raise Refused(NO_ROOM, total)
+    return data[:2] + total.to_bytes(2, "big") + data[2:18] + body
+
+
 LENT, SPARE = 0xA5, 5
 # (00)*3 in a case is 000000
 REPEATED = re.compile(r"\(([0-9a-f]+)\)\*([0-9]+),?")
-FUNCTIONS = ("message", "header", "avp", "table", "find", "steps", "message-by", "avp-by", "compare")
+FUNCTIONS = ("message", "header", "avp", "table", "find", "steps", "message-by", "avp-by", "compare", "packet", "packet-table")
 READINGS = ("sawp", "rfc")
+WRITERS = {"table": written, "packet-table": packet_written}
 
 
 def frame(function, reading, limit, room, data):
@@ -346,7 +437,7 @@ def frame(function, reading, limit, room, data):
 
 
 def decoded(function, reading, limit, room, data):
-    """The header's bytes, where there is one, and what was read."""
+    """The header's bytes, where there is one, or a packet's first two; and what was read."""
     if function == "header":
         return data[:20], header_alone(data)
     if function == "avp":
@@ -355,14 +446,25 @@ def decoded(function, reading, limit, room, data):
         return b"", by_edition(avp_alone, be(data[:4]), limit, room, data[4:])
     if function == "message-by":
         return data[4:24], by_edition(message, be(data[:4]), limit, room, data[4:])
+    if function == "packet":
+        return data[:2], packet(room, data)
     return data[:20], message(reading, limit, room, data)
+
+
+def authenticator(function, data):
+    """That of a packet; nothing else has one."""
+    return data[4:20] if function == "packet" else b""
+
+
+def counts(flags, records, tried, length):
+    return bytes([flags]) + len(records).to_bytes(2, "big") + tried.to_bytes(4, "big") + length.to_bytes(4, "big")
 
 
 def answer(function, reading, limit, room, data):
     size = room * 32 + SPARE
     try:
-        if function == "table":
-            out = written(data, size)
+        if function in WRITERS:
+            out = WRITERS[function](data, size)
             return bytes(5) + len(out).to_bytes(4, "big") + out.ljust(size, bytes([LENT]))
         if function == "find":
             return bytes(5) + search(reading, data[:4], data[4:]) + bytes([LENT]) * size
@@ -370,14 +472,13 @@ def answer(function, reading, limit, room, data):
             return steps(reading, data) + bytes([LENT]) * size
         if function == "compare":
             return bytes(5) + bytes([comparison(data)]) + bytes([LENT]) * size
-        head, (flags, records, tried, length) = decoded(function, reading, limit, room, data)
+        head, read = decoded(function, reading, limit, room, data)
     except Refused as r:
-        return bytes([r.number]) + r.amount.to_bytes(4, "big") + bytes([LENT]) * size
-    out = bytes(5) + head + bytes([flags])
-    out += len(records).to_bytes(2, "big") + tried.to_bytes(4, "big") + length.to_bytes(4, "big")
+        return bytes([r.number]) + r.amount.to_bytes(4, "big") + authenticator(function, bytes(20)) + bytes([LENT]) * size
+    out = bytes(5) + head + counts(*read) + authenticator(function, data)
     if function == "header":
         return out + bytes([LENT]) * size
-    return out + b"".join(records).ljust(size, b"\0")
+    return out + b"".join(read[1]).ljust(size, b"\0")
 
 
 def unit_values(words):
@@ -389,7 +490,7 @@ def case(function, *words):
     """A case from the words of its line."""
     if function == "compare":
         return function, "rfc", 0, 0, unit_values(words)
-    reading, limit, room, text = words
+    reading, limit, room, text = ("rfc", 0, *words) if function in ("packet", "packet-table") else words
     data = b"" if text == "-" else bytes.fromhex(REPEATED.sub(lambda m: m[1] * int(m[2]), text))
     if function in ("message-by", "avp-by"):
         reading, data = "rfc", int(reading).to_bytes(4, "big") + data

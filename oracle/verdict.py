@@ -34,6 +34,11 @@ FROM_1900, TO_2036 = 2208988800, 2085978496
 WRAP = 1 << 32
 
 
+def type_name(code, kind):
+    """Our type by tshark's name for it."""
+    return DEPARTED.get(kind, {}).get(code, NAMES.get(kind))
+
+
 def head_size(record):
     return 12 if record[4] & 0x80 else 8
 

@@ -1,10 +1,13 @@
-"""Makes what crates/witness must write: python3 oracle/witness.py RFC3629 RFC4330 RFC6733 RFC4006 RFC8506 RUST > crates/witness/stdout
+"""Makes what crates/witness must write:
+
+    python3 oracle/witness.py RFC3629 RFC4330 RFC6733 RFC4006 RFC8506 RFC2865 RFC2866 RUST > crates/witness/stdout
 
 RFC3629 is the text of that RFC: its lines of section 4 give the ranges of UTF-8, the texts at their ends and what is well-formed.
 RFC4330 is the text of that RFC: its section 3 says from when a Time is reckoned with its top bit set and with it clear.
 RFC6733 is the text of that RFC (rfc-editor.org/rfc/rfc6733.txt): its table of section 4.5 gives codes, names and data types, and its
 pictures in sections 3 and 4.1 the flag bits. RFC4006 and RFC8506 are the texts of those: their tables of section 8 give the codes and
-data types of each edition. RUST is sawp-diameter/src/lib.rs: its enums give the names of its codes and the numbers of the kinds, and
+data types of each edition. RFC2865 and RFC2866 are the texts of those: their pictures of section 5 give the types of RADIUS and what
+their data are. RUST is sawp-diameter/src/lib.rs: its enums give the names of its codes and the numbers of the kinds, and
 `Value::new` the kind of each name. docs/FORMAT.md gives the rest: that in the RFC reading another vendor's AVP is Unhandled, the
 refusals, and, by oracle/model.py, what is read and written of P8 and how Unit-Values compare. Nothing is taken from our code.
 """
@@ -20,6 +23,7 @@ CODES, EDITION_CODES, STORE, LENT = 513, 701, 37, 0xA5
 P8 = bytes.fromhex("01000024" + "00" * 16 + "0000010c0000000d000007d100000000")
 BROKEN = bytes.fromhex("01000025" + "00" * 16 + "0000010c0000000d000007d10000000000")
 RECORD = bytes.fromhex("0000010c0000000d000000000000001c" + "0104020300000000" + "00000000000007d1")
+PACKET = bytes.fromhex("0407001f" + "101112131415161718191a1b1c1d1e1f" + "2c044133" + "2e070000000100" + "ff")
 # What each refusal returns, by its number from 1 on, where it was made with 12.
 AMOUNTS = [12, 0, 0, 0, 0, 12, 0, 0, 12, 0, 12, 0, 0]
 # What the order holds before a comparison.
@@ -47,6 +51,16 @@ def edition_table(text):
     """Code: data type, of section 8 of RFC 4006 or RFC 8506. Only the first line of a name has its code."""
     section = text[text.rindex("\n8.  Credit-Control AVPs") : text.rindex("\n8.1.  CC-Correlation-Id AVP")]
     return {int(code): kind for code, kind in re.findall(r"^   [A-Z].* +(\d+) +8\.\d+ +(\w+) *\|", section, re.M)}
+
+
+def radius_table(text):
+    """Type: the first field of its data in its picture, of section 5 of RFC 2865 or RFC 2866."""
+    table = {}
+    for section in re.split(r"^5\.\d+\.  ", text, flags=re.M)[1:]:
+        field = re.search(r"^ +\| +Type +\| +Length +\| +(\w[\w-]*)", section, re.M)
+        if field:
+            table[int(re.search(r"^ +Type\n\n +(\d+) for ", section, re.M)[1])] = field[1]
+    return table
 
 
 def utf8_rows(text):
@@ -120,6 +134,14 @@ def editions(rfc_text, edition_texts, rust_text):
         for edition, table in tables.items():
             kind = table.get(code, "Unhandled")
             line("edition", edition, code, order.index(kind if kind in order else "OctetString"))
+
+
+def types(rfc2865_text, rfc2866_text, rust_text):
+    """The kind of each type of RADIUS; what is drawn as neither text, an address nor a value is bytes."""
+    table, order = {**radius_table(rfc2865_text), **radius_table(rfc2866_text)}, rust_kinds(rust_text)[0]
+    drawn = {"Text": "UTF8String", "Address": "Address", "Value": "Unsigned32", None: "Unhandled"}
+    for code in range(256):
+        line("radius", code, order.index(drawn.get(table.get(code), "OctetString")))
 
 
 def flags(rfc_text):
@@ -251,14 +273,43 @@ def library():
     comparisons()
 
 
+def packets():
+    """A packet, in a store for its two records and in one a byte too short; its first record, written, in room enough and in a byte too little."""
+    for size in (69, 63):
+        def read_packet():
+            errors, records, tried, length = model.packet(size // 32, PACKET)
+            return [0, 0, errors, len(records), tried, length, *PACKET[:2]], b"".join(records).ljust(size, b"\0"), PACKET[4:20]
+
+        packet_line("packet", read_packet, size, 16)
+    row = model.packet(2, PACKET)[1][0]
+    for size in (30, 23):
+        def write_packet():
+            out = model.packet_written(PACKET[:2] + PACKET[4:20] + len(row).to_bytes(4, "big") + row + PACKET, size)
+            return [0, 0, 0, 0, 0, len(out), 0, 0], out.ljust(size, bytes([LENT])), b""
+
+        packet_line("packet-written", write_packet, size, 0)
+
+
+def packet_line(label, ask, size, more):
+    """The eight numbers of a result, and what lent memory of that size, and of more, holds afterwards."""
+    try:
+        numbers, memory, authenticator = ask()
+    except model.Refused as r:
+        numbers, memory, authenticator = [r.number, r.amount] + [0] * 6, bytes([LENT]) * size, bytes([LENT]) * more
+    line(label, *numbers, "leaves", *memory, *authenticator)
+
+
 def main():
-    rfc3629_text, rfc4330_text, rfc_text, rfc4006_text, rfc8506_text, rust_text = (open(path, encoding="utf-8").read() for path in sys.argv[1:])
+    given = (open(path, encoding="utf-8").read() for path in sys.argv[1:])
+    rfc3629_text, rfc4330_text, rfc_text, rfc4006_text, rfc8506_text, rfc2865_text, rfc2866_text, rust_text = given
     codes(rfc_text, rust_text)
     editions(rfc_text, {4006: rfc4006_text, 8506: rfc8506_text}, rust_text)
+    types(rfc2865_text, rfc2866_text, rust_text)
     flags(rfc_text)
     numbers(time_starts(rfc4330_text))
     texts(utf8_rows(rfc3629_text))
     library()
+    packets()
 
 
 if __name__ == "__main__":

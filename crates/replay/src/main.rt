@@ -1,5 +1,7 @@
 // Answers framed cases from standard input on standard output: the bridge to the oracle and, with the frames kept beside it, a
 // test of the decoders. oracle/README.md has the frame and the answer. It stops at the end of the input or at a frame that it can't hold.
+mod packets;
+
 use attribute::Reading;
 use avps::Filled;
 use diameter::Decoded;
@@ -32,7 +34,7 @@ fn write_u8(v: u8) {
 }
 
 fn write_u16(v: usize) {
-    io::write_all(1, &[(v / 256 % 256) as u8, (v % 256) as u8]);
+    io::write_all(1, &octets::to_be_u16((v % 0x1_0000) as u32));
 }
 
 fn write_u24(v: u32) {
@@ -285,6 +287,8 @@ fn answer(frame: [u8; FRAME_SIZE], input: &[u8], store: &mut [u8]) {
         6 => message_by(limit, input, store),
         7 => avp_by(limit, input, store),
         8 => comparison(input),
+        9 => packets::packet(input, store),
+        10 => packets::table(input, store),
         _ => table(input, store),
     }
 }

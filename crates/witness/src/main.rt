@@ -6,14 +6,18 @@ mod codes;
 mod library;
 mod names;
 mod numbers;
+mod packets;
 mod print;
 mod texts;
+mod types;
 
 fn main() {
     codes::lines();
     by_edition::lines();
+    types::lines();
     bits::lines();
     numbers::lines();
     texts::lines();
     library::lines();
+    packets::lines();
 }

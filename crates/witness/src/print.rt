@@ -1,6 +1,7 @@
 // Lines on standard output: a label, then words and numbers, each after a space.
 use tandrekily::OUTLINE;
 use tandrekily::RESULT;
+use tandrekily::packets;
 
 const OUT: i32 = 1;
 
@@ -57,6 +58,18 @@ pub(super) fn outline(all: &[u64; OUTLINE]) {
     number(all[7]);
     number(all[8]);
     number(all[9]);
+}
+
+// Its answer, and what a packet has.
+pub(super) fn packet(all: &[u64; packets::RESULT]) {
+    number(all[0]);
+    number(all[1]);
+    number(all[2]);
+    number(all[3]);
+    number(all[4]);
+    number(all[5]);
+    number(all[6]);
+    number(all[7]);
 }
 
 fn wide(x: u8) -> u64 {
