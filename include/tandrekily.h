@@ -1,17 +1,22 @@
-// Tandrekily for C and C++: decodes and writes Diameter messages (RFC 6733), those of credit-control too (RFC 4006, RFC 8506).
+// Tandrekily for C and C++: decodes and writes Diameter messages (RFC 6733), those of credit-control too (RFC 4006, RFC 8506), and
+// RADIUS packets (RFC 2865, RFC 2866).
 // Link libtandrekily.a, for x86-64 Linux.
 //
 // What a caller passes:
 //   - With each pointer that has a length, so many bytes that may be read; those of `store` and `out` may be written too.
-//   - `result` points to TANDREKILY_RESULT numbers, `outline` to TANDREKILY_OUTLINE, and `order` to one.
+//   - `result` points to TANDREKILY_RESULT numbers, and for RADIUS to TANDREKILY_RADIUS_RESULT; `outline` points to
+//     TANDREKILY_OUTLINE, and `order` to one.
+//   - `authenticator` points to TANDREKILY_AUTHENTICATOR bytes. They may be written by `tandrekily_radius`, and are only read by
+//     `tandrekily_radius_write`.
 //   - No null pointer. Where a length is 0, any other pointer does, and nothing is read or written through it.
-//   - `store`, `out`, `result`, `outline` and `order` share no byte with anything else that is passed.
-// Nothing else is asked: each function answers for any bytes and any numbers. Before a call the bytes of `store`, `out`,
-// `result`, `outline` and `order` may be anything.
+//   - `store`, `out`, `result`, `outline`, `order` and an `authenticator` that may be written share no byte with anything else that
+//     is passed.
+// Nothing else is asked: each function answers for any bytes and any numbers. Before a call the bytes of what may be written may be
+// anything.
 //
 // What a caller gets:
 //   - `result` and `outline` are written whole by every call, with zeros where nothing is returned.
-//   - A refusal changes no byte of `store`, `out` or `order`.
+//   - A refusal changes no byte of `store`, `out`, `order` or `authenticator`.
 //   - Nothing is allocated or kept between calls, so calls may run in several threads at once.
 //   - A call takes less than 64 KiB of stack; bench/stack measures it at the deepest nesting.
 //   - An acceptance writes the whole of `store`: the records, and zero after them. So lend no more than the message needs: a
@@ -32,13 +37,13 @@ extern "C" {
 
 // ---- results
 
-// The places in a result. All after the amount are 0 in a refusal.
+// The places in a result. All after the amount are 0 in a refusal. RADIUS has other fields from place 6 on: tandrekily_radius_place.
 enum tandrekily_place {
     TANDREKILY_NUMBER = 0,      // the answer's number, listed below
     TANDREKILY_AMOUNT = 1,      // what a refusal returns besides; 0 if accepted
     TANDREKILY_ERRORS = 2,      // error flags of all that was read, joined
     TANDREKILY_RECORDS = 3,     // records in the store
-    TANDREKILY_TRIED = 4,       // AVP headers tried, those in groups that do not tile too
+    TANDREKILY_TRIED = 4,       // AVP headers tried, those in groups that do not tile too; attributes of RADIUS
     TANDREKILY_LENGTH = 5,      // bytes consumed, or written
     TANDREKILY_MESSAGE_VERSION = 6, // from here on the fields of a message's header
     TANDREKILY_MESSAGE_LENGTH = 7,
@@ -54,14 +59,14 @@ enum tandrekily_answer {
     TANDREKILY_ACCEPTED = 0,
     TANDREKILY_INCOMPLETE = 1,  // bytes are absent; the amount says how many
     TANDREKILY_NOT_VERSION = 2, // the first byte is not 1
-    TANDREKILY_BAD_LENGTH = 3,  // the length field is shorter than the header
-    TANDREKILY_NOT_TILED = 4,   // complete AVPs do not cover the message to its last byte
+    TANDREKILY_BAD_LENGTH = 3,  // the length field is shorter than the header, or over 4,096 in RADIUS
+    TANDREKILY_NOT_TILED = 4,   // complete AVPs or attributes do not cover the message to its last byte
     TANDREKILY_TOO_DEEP = 5,    // AVPs are nested deeper than the limit
     TANDREKILY_NO_RECORDS = 6,  // the store is too short; the amount is the records needed
     TANDREKILY_BAD_DEPTH = 7,   // the limit is not 1..64
     TANDREKILY_BAD_HEADER = 8,  // the command code is over 16,777,215
     TANDREKILY_BAD_TABLE = 9,   // the amount is the index of the first bad record, or the record count if bytes are left over
-    TANDREKILY_TOO_LONG = 10,   // the message would be over 16,777,215 bytes
+    TANDREKILY_TOO_LONG = 10,   // the message would be over 16,777,215 bytes, or 4,096 in RADIUS
     TANDREKILY_NO_ROOM = 11,    // the output is too short; the amount is the bytes needed
     TANDREKILY_BAD_EDITION = 12, // the edition is neither 4006 nor 8506
     TANDREKILY_BAD_EXPONENT = 13 // an exponent is not -18..18
@@ -77,7 +82,8 @@ enum tandrekily_error_flag {
 
 // ---- records
 
-// A record has 32 bytes, its numbers are big-endian, and a group stands before its members. These are the places in it.
+// A record has 32 bytes, its numbers are big-endian, and a group stands before its members. These are the places in it. That of an
+// attribute of RADIUS is laid out the same.
 enum tandrekily_record {
     TANDREKILY_RECORD_CODE = 0,     // 4 bytes
     TANDREKILY_RECORD_FLAGS = 4,    // 1
@@ -205,6 +211,48 @@ size_t tandrekily_next(const uint8_t *message, size_t message_length, size_t pla
 void tandrekily_write(uint8_t flags, uint32_t command_code, uint32_t application_id, uint32_t hop_by_hop, uint32_t end_to_end,
                       const uint8_t *table, size_t table_length, const uint8_t *pool, size_t pool_length, uint8_t *out,
                       size_t out_length, uint64_t result[TANDREKILY_RESULT]);
+
+// ---- RADIUS
+
+// The places in a result of RADIUS that follow TANDREKILY_LENGTH; up to there it is as any other. Both are 0 in a refusal and in what
+// the writer answers.
+enum tandrekily_radius_place {
+    TANDREKILY_RADIUS_CODE = 6,
+    TANDREKILY_RADIUS_IDENTIFIER = 7,
+    TANDREKILY_RADIUS_RESULT = 8 // how many numbers a result of RADIUS has
+};
+
+enum tandrekily_radius_size {
+    TANDREKILY_ATTRIBUTE_HEAD = 2,   // the data of a record are its length less this
+    TANDREKILY_AUTHENTICATOR = 16,   // bytes of an authenticator
+    TANDREKILY_RADIUS_MOST = 4096,   // bytes of the longest packet
+    TANDREKILY_RADIUS_RECORDS = 2038 // a store for so many has room for any packet
+};
+
+// Decodes the packet at the front of `input` into records in `store`, which holds `store_length` / 32 of them. What is past the
+// packet's length is not looked at. A record's code is the attribute's type, its length that of header and data, its depth 1; flags,
+// vendor and padding are 0. Its kind is, by the type's format in RFC 2865 and RFC 2866:
+//   text: UTF8_STRING; where it is ill-formed UNHANDLED with DATA_VALUE, and the value is at which byte it broke
+//   an address: ADDRESS; an integer: UNSIGNED_32; the value is the number. Not of 4 bytes it is UNHANDLED with DATA_LENGTH
+//   a string, or any other format: OCTET_STRING
+//   a type that the RFCs do not have: UNHANDLED
+// The answer:
+//   accepted: code, identifier, the packet's error flags, records, tried (the same number), the packet's length; the authenticator; the
+//   rest of the store is zero
+//   refused, in this order: INCOMPLETE of 4 bytes, BAD_LENGTH where it is not 20..4096, INCOMPLETE of the length, NOT_TILED, NO_RECORDS
+// With a store of length 0 it says how many records are needed.
+void tandrekily_radius(const uint8_t *input, size_t input_length, uint8_t *store, size_t store_length,
+                       uint8_t authenticator[TANDREKILY_AUTHENTICATOR], uint64_t result[TANDREKILY_RADIUS_RESULT]);
+
+// Writes the packet of the records in `table` to the front of `out`. Their places point into `pool`; a decoder's records with its input
+// as the pool give the packet again. A record is good where its code is at most 255, its length 2..255, its depth 1, flags, vendor,
+// padding and the three bytes of padding 0, and its data within the pool. Kind, error flags, byte 23 and value are not read.
+//   accepted: the packet's length; the rest of `out` stays as it was
+//   refused, in this order: BAD_TABLE, TOO_LONG, NO_ROOM
+// With an output of length 0 it says how many bytes are needed.
+void tandrekily_radius_write(uint8_t code, uint8_t identifier, const uint8_t authenticator[TANDREKILY_AUTHENTICATOR],
+                             const uint8_t *table, size_t table_length, const uint8_t *pool, size_t pool_length, uint8_t *out,
+                             size_t out_length, uint64_t result[TANDREKILY_RADIUS_RESULT]);
 
 // ---- values
 

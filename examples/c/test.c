@@ -793,6 +793,422 @@ static void unit_values(void) {
     }
 }
 
+// ---- RADIUS
+
+#define PACKET(length) "0407" length "A0A1A2A3 A4A5A6A7 A8A9AAAB ACADAEAF "
+#define NAME "0105626F62"
+#define LETTERS_252 LETTERS_64 LETTERS_64 LETTERS_64 LETTERS_16 LETTERS_16 LETTERS_16 LETTERS_4 LETTERS_4 LETTERS_4
+
+// Bytes behind the store are looked at too, BEHIND of them.
+enum { PACKET_MOST = 4096, BEHIND = 32, STORE_MOST = 2040 * TANDREKILY_RECORD_SIZE };
+
+struct packet_refusal {
+    const char *name;
+    size_t room;
+    const char *input;
+    uint64_t number, amount;
+};
+
+static const struct packet_refusal packets_refused[] = {
+    {"RADIUS: empty input", 64, "", 1, 4},
+    {"RADIUS: one byte", 64, "04", 1, 3},
+    {"RADIUS: three bytes", 64, "040700", 1, 1},
+    {"RADIUS: length 0 of 4 bytes", 64, "04070000", 3, 0},
+    {"RADIUS: length 19 of 4 bytes", 64, "04070013", 3, 0},
+    {"RADIUS: length 19", 64, PACKET("0013"), 3, 0},
+    {"RADIUS: length 4097 of 4 bytes", 64, "04071001", 3, 0},
+    {"RADIUS: the largest length", 64, "0407FFFF", 3, 0},
+    {"RADIUS: length 20 of 4 bytes", 64, "04070014", 1, 16},
+    {"RADIUS: length 4096 of 4 bytes", 64, "04071000", 1, 4092},
+    {"RADIUS: length 20 of 19 bytes", 64, "04070014 A0A1A2A3 A4A5A6A7 A8A9AAAB ACADAE", 1, 1},
+    {"RADIUS: the last byte is absent, and an attribute is broken", 0, PACKET("0019") "01000000", 1, 1},
+    {"RADIUS: one byte left over", 64, PACKET("0015") "01", 4, 0},
+    {"RADIUS: one byte left over after an attribute", 64, PACKET("001A") NAME "01", 4, 0},
+    {"RADIUS: one byte left over, and the next past the packet", 64, PACKET("0015") "0102", 4, 0},
+    {"RADIUS: an attribute of length 0", 64, PACKET("0016") "0100", 4, 0},
+    {"RADIUS: an attribute of length 1", 64, PACKET("0016") "0101", 4, 0},
+    {"RADIUS: an attribute of length 1 after another", 64, PACKET("001B") NAME "0101", 4, 0},
+    {"RADIUS: an attribute of length 1 with another in its length", 64, PACKET("0017") "010102", 4, 0},
+    {"RADIUS: an attribute a byte too long", 64, PACKET("0018") "0105626F", 4, 0},
+    {"RADIUS: an attribute past the packet, not past the input", 64, PACKET("0018") NAME, 4, 0},
+    {"RADIUS: an attribute of length 255 in 2 bytes", 64, PACKET("0016") "01FF", 4, 0},
+    {"RADIUS: no room, and an attribute is broken", 0, PACKET("001B") NAME "0101", 4, 0},
+    {"RADIUS: no room", 0, PACKET("0019") NAME, 6, 1},
+    {"RADIUS: room for less than a record", 31, PACKET("0019") NAME, 6, 1},
+    {"RADIUS: room for two of three", 95, PACKET("0023") NAME NAME NAME, 6, 3},
+};
+
+// What the library is lent for a packet, and something behind each.
+static struct {
+    uint8_t store[STORE_MOST + BEHIND];
+    uint8_t authenticator[TANDREKILY_AUTHENTICATOR + 1];
+    uint64_t result[TANDREKILY_RADIUS_RESULT + 1];
+} lent;
+
+static void decode_packet(const uint8_t *input, size_t length, size_t room) {
+    memset(lent.store, LENT, room + BEHIND);
+    memset(lent.authenticator, LENT, sizeof lent.authenticator);
+    spoil(TANDREKILY_RADIUS_RESULT + 1, lent.result);
+    tandrekily_radius(input, length, lent.store, room, lent.authenticator, lent.result);
+}
+
+static bool is_lent(uint64_t number) {
+    return all(LENT, (const uint8_t *)&number, sizeof number);
+}
+
+// The numbers of a result, and that it has no more.
+static void check_radius(const char *name, const uint64_t *expected, const uint64_t *result) {
+    check_numbers(name, TANDREKILY_RADIUS_RESULT, expected, result);
+    check(name, "a number after the result was changed", is_lent(result[TANDREKILY_RADIUS_RESULT]));
+}
+
+// A refusal leaves the store and the authenticator as they were lent.
+static void refuse_packet(const char *name, const uint8_t *input, size_t length, size_t room, uint64_t number, uint64_t amount) {
+    uint64_t expected[TANDREKILY_RADIUS_RESULT] = {number, amount};
+    decode_packet(input, length, room);
+    check_radius(name, expected, lent.result);
+    check(name, "the store was changed", all(LENT, lent.store, room + BEHIND));
+    check(name, "the authenticator was changed", all(LENT, lent.authenticator, sizeof lent.authenticator));
+}
+
+struct packet {
+    const char *name, *input, *records;
+    uint64_t result[TANDREKILY_RADIUS_RESULT];
+};
+
+static const struct packet packets[] = {
+    {"RADIUS: no attribute", PACKET("0014"), "", {0, 0, 0, 0, 0, 20, 4, 7}},
+    {"RADIUS: every bit of the header, and a byte more", "FFFE0014 00000000 00000000 00000000 00000000 FF", "",
+     {0, 0, 0, 0, 0, 20, 255, 254}},
+    {"RADIUS: an attribute past the packet", PACKET("0014") NAME, "", {0, 0, 0, 0, 0, 20, 4, 7}},
+    {"RADIUS: a string", PACKET("0019") NAME, "00000001 00 000005 00000000 00000016 01 01 00 00 00000000 00000000 00000000",
+     {0, 0, 0, 1, 1, 25, 4, 7}},
+    {"RADIUS: a string of any bytes", PACKET("0018") "0104FFC0",
+     "00000001 00 000004 00000000 00000016 01 01 00 00 00000000 00000000 00000000", {0, 0, 0, 1, 1, 24, 4, 7}},
+    {"RADIUS: a string of no bytes, and a broken attribute past the packet", PACKET("0016") "0102 0101",
+     "00000001 00 000002 00000000 00000016 01 01 00 00 00000000 00000000 00000000", {0, 0, 0, 1, 1, 22, 4, 7}},
+    {"RADIUS: a string of 253 bytes", PACKET("0113") "19FF" LETTERS_252 "00",
+     "00000019 00 0000FF 00000000 00000016 01 01 00 00 00000000 00000000 00000000", {0, 0, 0, 1, 1, 275, 4, 7}},
+    {"RADIUS: Vendor-Specific is any bytes", PACKET("001E") "1A0A 00000009 0104 FF00",
+     "0000001A 00 00000A 00000000 00000016 01 01 00 00 00000000 00000000 00000000", {0, 0, 0, 1, 1, 30, 4, 7}},
+    {"RADIUS: an integer", PACKET("001A") "0506 80000001",
+     "00000005 00 000006 00000000 00000016 01 04 00 00 00000000 00000000 80000001", {0, 0, 0, 1, 1, 26, 4, 7}},
+    {"RADIUS: an integer of 3 bytes", PACKET("0019") "0505 616263",
+     "00000005 00 000005 00000000 00000016 01 00 02 00 00000000 00000000 00000000", {0, 0, 2, 1, 1, 25, 4, 7}},
+    {"RADIUS: an integer of 5 bytes", PACKET("001B") "0507 80000001 00",
+     "00000005 00 000007 00000000 00000016 01 00 02 00 00000000 00000000 00000000", {0, 0, 2, 1, 1, 27, 4, 7}},
+    {"RADIUS: an integer of no bytes", PACKET("0016") "0502",
+     "00000005 00 000002 00000000 00000016 01 00 02 00 00000000 00000000 00000000", {0, 0, 2, 1, 1, 22, 4, 7}},
+    {"RADIUS: an address", PACKET("001A") "0406 C0000210",
+     "00000004 00 000006 00000000 00000016 01 0D 00 00 00000000 00000000 C0000210", {0, 0, 0, 1, 1, 26, 4, 7}},
+    {"RADIUS: an address with a family", PACKET("001C") "0408 0001 C0000210",
+     "00000004 00 000008 00000000 00000016 01 00 02 00 00000000 00000000 00000000", {0, 0, 2, 1, 1, 28, 4, 7}},
+    {"RADIUS: an address of 16 bytes", PACKET("0026") "0412 20010DB8 00000000 00000000 00000001",
+     "00000004 00 000012 00000000 00000016 01 00 02 00 00000000 00000000 00000000", {0, 0, 2, 1, 1, 38, 4, 7}},
+    {"RADIUS: a text", PACKET("0018") "1204 C3A9",
+     "00000012 00 000004 00000000 00000016 01 0A 00 00 00000000 00000000 00000000", {0, 0, 0, 1, 1, 24, 4, 7}},
+    {"RADIUS: a text of no bytes", PACKET("0016") "2C02",
+     "0000002C 00 000002 00000000 00000016 01 0A 00 00 00000000 00000000 00000000", {0, 0, 0, 1, 1, 22, 4, 7}},
+    {"RADIUS: a text that breaks at byte 0", PACKET("0018") "1604 C080",
+     "00000016 00 000004 00000000 00000016 01 00 01 00 00000000 00000000 00000000", {0, 0, 1, 1, 1, 24, 4, 7}},
+    {"RADIUS: a text that breaks at byte 252", PACKET("0113") "0BFF" LETTERS_252 "FF",
+     "0000000B 00 0000FF 00000000 00000016 01 00 01 00 00000000 00000000 000000FC", {0, 0, 1, 1, 1, 275, 4, 7}},
+    {"RADIUS: a text that the next attribute would complete", PACKET("001B") "2C05 61E282 AC02",
+     "0000002C 00 000005 00000000 00000016 01 00 01 00 00000000 00000000 00000001"
+     "000000AC 00 000002 00000000 0000001B 01 00 00 00 00000000 00000000 00000000",
+     {0, 0, 1, 2, 2, 27, 4, 7}},
+    {"RADIUS: letters of a type that the RFCs do not have", PACKET("001A") "5706" LETTERS_4,
+     "00000057 00 000006 00000000 00000016 01 00 00 00 00000000 00000000 00000000", {0, 0, 0, 1, 1, 26, 4, 7}},
+    {"RADIUS: flags of the first and of the last are joined", PACKET("0022") "1203 FF" NAME "2903 00 2C03 61",
+     "00000012 00 000003 00000000 00000016 01 00 01 00 00000000 00000000 00000000"
+     "00000001 00 000005 00000000 00000019 01 01 00 00 00000000 00000000 00000000"
+     "00000029 00 000003 00000000 0000001E 01 00 02 00 00000000 00000000 00000000"
+     "0000002C 00 000003 00000000 00000021 01 0A 00 00 00000000 00000000 00000000",
+     {0, 0, 3, 4, 4, 34, 4, 7}},
+    {"RADIUS: the Access-Accept of RFC 2865, section 7.1",
+     "02000026 86FE220E 7624BA2A 1005F6BF 9B55E0B2 0606 00000001 0F06 00000000 0E06 C0A80103",
+     "00000006 00 000006 00000000 00000016 01 04 00 00 00000000 00000000 00000001"
+     "0000000F 00 000006 00000000 0000001C 01 04 00 00 00000000 00000000 00000000"
+     "0000000E 00 000006 00000000 00000022 01 0D 00 00 00000000 00000000 C0A80103",
+     {0, 0, 0, 3, 3, 38, 2, 0}},
+};
+
+// The output ends with the packet, or has room for seven bytes more, which stay as they were lent.
+static void write_back(const char *name, const uint8_t *input) {
+    static const size_t spare[] = {0, 7};
+    static uint8_t out[PACKET_MOST + BEHIND];
+    uint64_t written[TANDREKILY_RADIUS_RESULT + 1];
+    uint64_t expected[TANDREKILY_RADIUS_RESULT] = {0};
+    size_t length = (size_t)lent.result[TANDREKILY_LENGTH];
+    expected[TANDREKILY_LENGTH] = length;
+    for (size_t i = 0; i < sizeof spare / sizeof *spare; i++) {
+        memset(out, LENT, length + BEHIND);
+        spoil(TANDREKILY_RADIUS_RESULT + 1, written);
+        tandrekily_radius_write((uint8_t)lent.result[TANDREKILY_RADIUS_CODE], (uint8_t)lent.result[TANDREKILY_RADIUS_IDENTIFIER],
+                                lent.authenticator, lent.store, (size_t)lent.result[TANDREKILY_RECORDS] * TANDREKILY_RECORD_SIZE,
+                                input, length, out, length + spare[i], written);
+        check_radius(name, expected, written);
+        check(name, "another packet comes back", memcmp(out, input, length) == 0);
+        check(name, "bytes past what comes back were changed", all(LENT, out + length, BEHIND));
+    }
+}
+
+// The store ends with the last record, or has room for five bytes or a record and five bytes more: all zero then. What was read is
+// written back.
+static void accept_packet(const char *name, const uint8_t *input, size_t length, const uint8_t *records, const uint64_t *result) {
+    static const size_t spare[] = {0, 5, TANDREKILY_RECORD_SIZE + 5};
+    size_t used = TANDREKILY_RECORD_SIZE * (size_t)result[TANDREKILY_RECORDS];
+    for (size_t i = 0; i < sizeof spare / sizeof *spare; i++) {
+        size_t room = used + spare[i];
+        decode_packet(input, length, room);
+        check_radius(name, result, lent.result);
+        check(name, "the records are others", memcmp(lent.store, records, used) == 0);
+        check(name, "the store is not zero after the last record", all(0, lent.store + used, spare[i]));
+        check(name, "bytes after the store were changed", all(LENT, lent.store + room, BEHIND));
+        check(name, "another authenticator", memcmp(lent.authenticator, input + 4, TANDREKILY_AUTHENTICATOR) == 0);
+        check(name, "a byte after it was changed", lent.authenticator[TANDREKILY_AUTHENTICATOR] == LENT);
+    }
+    if (lent.result[TANDREKILY_NUMBER] == TANDREKILY_ACCEPTED) write_back(name, input);
+}
+
+// The kinds of types 0 to 63 in hex; all further types have kind 0.
+static const char radius_kinds[] = "0111D444DD4A44D4"
+                                   "40A110A411144411"
+                                   "111114414444A444"
+                                   "4414000000001441";
+
+#define VALUED "00000000 00 000000 00000000 00000016 01 00 00 00 00000000 00000000 6162FF64"
+#define BROKEN "00000000 00 000000 00000000 00000016 01 00 01 00 00000000 00000000 00000002"
+#define OF_NO_LENGTH "00000000 00 000000 00000000 00000016 01 00 02 00 00000000 00000000 00000000"
+#define PLAIN "00000000 00 000000 00000000 00000016 01 00 00 00 00000000 00000000 00000000"
+
+// The record of an attribute whose data are so many bytes of 61 62 FF 64 65, without its code, its length and its kind, which is
+// changed to 0 where the data are not of it.
+static const char *record_of(uint8_t *kind, uint8_t size) {
+    bool is_text = *kind == TANDREKILY_UTF8_STRING;
+    bool is_number = *kind == TANDREKILY_UNSIGNED_32 || *kind == TANDREKILY_ADDRESS;
+    if (is_number && size == 4) return VALUED;
+    if (!is_number && !(is_text && size > 2)) return PLAIN;
+    *kind = TANDREKILY_UNHANDLED;
+    return is_text ? BROKEN : OF_NO_LENGTH;
+}
+
+static void check_type(unsigned type, uint8_t size) {
+    uint8_t input[MOST], record[TANDREKILY_RECORD_SIZE];
+    size_t length = bytes_of(PACKET("0000") "0000 6162FF6465", input) - 5 + size;
+    uint8_t kind = type < 64 ? digit(radius_kinds[type]) : TANDREKILY_UNHANDLED;
+    bytes_of(record_of(&kind, size), record);
+    record[TANDREKILY_RECORD_CODE + 3] = (uint8_t)type;
+    record[TANDREKILY_RECORD_LENGTH + 2] = (uint8_t)(TANDREKILY_ATTRIBUTE_HEAD + size);
+    record[TANDREKILY_RECORD_KIND] = kind;
+    input[3] = (uint8_t)length;
+    input[20] = (uint8_t)type;
+    input[21] = record[TANDREKILY_RECORD_LENGTH + 2];
+    uint64_t result[TANDREKILY_RADIUS_RESULT] = {0, 0, record[TANDREKILY_RECORD_ERRORS], 1, 1, length, 4, 7};
+    accept_packet("RADIUS: each type", input, length, record, result);
+}
+
+// A packet of User-Names without data. Of an odd length the last one has a byte.
+static uint8_t *names(size_t length) {
+    static uint8_t packet[PACKET_MOST + 2];
+    packet[0] = 4;
+    packet[2] = (uint8_t)(length >> 8);
+    packet[3] = (uint8_t)length;
+    for (size_t at = 20; at < length; at += 2) {
+        packet[at] = 1;
+        packet[at + 1] = at + 3 == length ? 3 : 2;
+    }
+    return packet;
+}
+
+// The most attributes that a packet holds, and a byte more than a packet may have.
+static void long_packets(void) {
+    static uint8_t records[STORE_MOST];
+    const size_t most = TANDREKILY_RADIUS_RECORDS;
+    for (size_t i = 0; i < most; i++) {
+        uint8_t *record = records + i * TANDREKILY_RECORD_SIZE;
+        bytes_of("00000001 00 000002 00000000 00000000 01 01 00 00 00000000 00000000 00000000", record);
+        record[TANDREKILY_RECORD_PLACE + 2] = (uint8_t)((22 + 2 * i) >> 8);
+        record[TANDREKILY_RECORD_PLACE + 3] = (uint8_t)(22 + 2 * i);
+    }
+    accept_packet("RADIUS: 4,096 bytes", names(PACKET_MOST), PACKET_MOST + 1, records, (uint64_t[]){0, 0, 0, most, most, 4096, 4, 0});
+    refuse_packet("RADIUS: 4,096 bytes, a record too few", names(PACKET_MOST), PACKET_MOST, most * TANDREKILY_RECORD_SIZE - 1, 6, most);
+    refuse_packet("RADIUS: 4,095 of 4,096 bytes", names(PACKET_MOST), PACKET_MOST - 1, STORE_MOST, 1, 1);
+    refuse_packet("RADIUS: 4,097 bytes", names(PACKET_MOST + 1), PACKET_MOST + 1, STORE_MOST, 3, 0);
+}
+
+static void radius_reader(void) {
+    uint8_t input[MOST], records[MOST];
+    for (size_t i = 0; i < sizeof packets_refused / sizeof *packets_refused; i++) {
+        const struct packet_refusal *r = &packets_refused[i];
+        refuse_packet(r->name, input, bytes_of(r->input, input), r->room, r->number, r->amount);
+    }
+    for (size_t i = 0; i < sizeof packets / sizeof *packets; i++) {
+        const struct packet *p = &packets[i];
+        bytes_of(p->records, records);
+        accept_packet(p->name, input, bytes_of(p->input, input), records, p->result);
+    }
+    for (unsigned type = 0; type < 256; type++)
+        for (uint8_t size = 0; size <= 5; size++) check_type(type, size);
+    long_packets();
+}
+
+// A Reply-Message of this text, of which so many bytes are well-formed.
+static void check_text(const char *hex, uint64_t valid) {
+    uint8_t input[MOST], record[TANDREKILY_RECORD_SIZE];
+    size_t length = bytes_of(PACKET("0000") "1200", input);
+    size_t size = bytes_of(hex, input + length);
+    bool broken = valid < size;
+    input[21] = (uint8_t)(TANDREKILY_ATTRIBUTE_HEAD + size);
+    length += size;
+    input[2] = (uint8_t)(length >> 8);
+    input[3] = (uint8_t)length;
+    bytes_of("00000012 00 000000 00000000 00000016 01 0A 00 00 00000000 00000000 00000000", record);
+    record[TANDREKILY_RECORD_LENGTH + 2] = input[21];
+    if (broken) bytes_of("00 01", record + TANDREKILY_RECORD_KIND);
+    if (broken) record[TANDREKILY_RECORD_VALUE + 7] = (uint8_t)valid;
+    accept_packet(hex, input, length, record, (uint64_t[]){0, 0, broken, 1, 1, length, 4, 7});
+}
+
+// Those that fit an attribute.
+static void radius_texts(void) {
+    for (size_t i = 0; i < sizeof well_formed / sizeof *well_formed; i++)
+        if (strlen(well_formed[i]) < 500) check_text(well_formed[i], UINT64_MAX);
+    for (size_t i = 0; i < sizeof ill_formed / sizeof *ill_formed; i++)
+        if (ill_formed[i].valid < 250) check_text(ill_formed[i].text, ill_formed[i].valid);
+}
+
+// The pool is "bob", and this its record.
+#define ATTRIBUTE "00000001 00 000005 00000000 00000000 01 01 00 00 00000000 00000000 00000000"
+#define UNFIT "00000001 00 000005 00000000 00000001 01 01 00 00 00000000 00000000 00000000"
+
+struct packet_written {
+    const char *name, *table;
+    size_t room;
+    uint64_t number, amount;
+    const char *packet;
+};
+
+static const struct packet_written packets_written[] = {
+    {"RADIUS write: no record", "", 20, 0, 0, PACKET("0014")},
+    {"RADIUS write: a record", ATTRIBUTE, 25, 0, 0, PACKET("0019") NAME},
+    {"RADIUS write: two of the same bytes", ATTRIBUTE ATTRIBUTE, 33, 0, 0, PACKET("001E") NAME NAME},
+    {"RADIUS write: type 0", "00000000 00 000004 00000000 00000001 01 00 00 00 00000000 00000000 00000000", 24, 0, 0,
+     PACKET("0018") "00046F62"},
+    {"RADIUS write: type 255", "000000FF 00 000003 00000000 00000002 01 00 00 00 00000000 00000000 00000000", 24, 0, 0,
+     PACKET("0017") "FF0362"},
+    {"RADIUS write: no data at the pool's end", "00000001 00 000002 00000000 00000003 01 01 00 00 00000000 00000000 00000000", 22, 0,
+     0, PACKET("0016") "0102"},
+    {"RADIUS write: kind, errors, byte 23 and value are not read",
+     "00000001 00 000005 00000000 00000000 01 FF FF 00 000000FF FFFFFFFF FFFFFFFF", 25, 0, 0, PACKET("0019") NAME},
+    {"RADIUS write: type 256", "00000100 00 000005 00000000 00000000 01 01 00 00 00000000 00000000 00000000", 64, 9, 0, ""},
+    {"RADIUS write: a type of 4 bytes", "01000001 00 000005 00000000 00000000 01 01 00 00 00000000 00000000 00000000", 64, 9, 0, ""},
+    {"RADIUS write: a flag", "00000001 40 000005 00000000 00000000 01 01 00 00 00000000 00000000 00000000", 64, 9, 0, ""},
+    {"RADIUS write: length 0", "00000001 00 000000 00000000 00000002 01 01 00 00 00000000 00000000 00000000", 64, 9, 0, ""},
+    {"RADIUS write: length 1", "00000001 00 000001 00000000 00000001 01 01 00 00 00000000 00000000 00000000", 64, 9, 0, ""},
+    {"RADIUS write: a length whose low byte is good", "00000001 00 010005 00000000 00000000 01 01 00 00 00000000 00000000 00000000",
+     64, 9, 0, ""},
+    {"RADIUS write: a vendor", "00000001 00 000005 00000001 00000000 01 01 00 00 00000000 00000000 00000000", 64, 9, 0, ""},
+    {"RADIUS write: a vendor's first byte", "00000001 00 000005 01000000 00000000 01 01 00 00 00000000 00000000 00000000", 64, 9, 0,
+     ""},
+    {"RADIUS write: a vendor and a place that would wrap",
+     "00000001 00 000005 FFFFFFFF FFFFFFFF 01 01 00 00 00000000 00000000 00000000", 64, 9, 0, ""},
+    {"RADIUS write: data a byte past the pool", UNFIT, 64, 9, 0, ""},
+    {"RADIUS write: no data past the pool", "00000001 00 000002 00000000 00000004 01 01 00 00 00000000 00000000 00000000", 64, 9, 0,
+     ""},
+    {"RADIUS write: the largest place", "00000001 00 000005 00000000 FFFFFFFF 01 01 00 00 00000000 00000000 00000000", 64, 9, 0, ""},
+    {"RADIUS write: a place whose low bytes are good", "00000001 00 000005 00000000 00010000 01 01 00 00 00000000 00000000 00000000",
+     64, 9, 0, ""},
+    {"RADIUS write: depth 0", "00000001 00 000005 00000000 00000000 00 01 00 00 00000000 00000000 00000000", 64, 9, 0, ""},
+    {"RADIUS write: depth 2", "00000001 00 000005 00000000 00000000 02 01 00 00 00000000 00000000 00000000", 64, 9, 0, ""},
+    {"RADIUS write: a byte of padding", "00000001 00 000005 00000000 00000000 01 01 00 01 00000000 00000000 00000000", 64, 9, 0, ""},
+    {"RADIUS write: the first pad", "00000001 00 000005 00000000 00000000 01 01 00 00 01000000 00000000 00000000", 64, 9, 0, ""},
+    {"RADIUS write: the second pad", "00000001 00 000005 00000000 00000000 01 01 00 00 00010000 00000000 00000000", 64, 9, 0, ""},
+    {"RADIUS write: the third pad", "00000001 00 000005 00000000 00000000 01 01 00 00 00000100 00000000 00000000", 64, 9, 0, ""},
+    {"RADIUS write: the second record of three", ATTRIBUTE UNFIT ATTRIBUTE, 64, 9, 1, ""},
+    {"RADIUS write: two bad records", UNFIT UNFIT, 0, 9, 0, ""},
+    {"RADIUS write: bytes left over", ATTRIBUTE ATTRIBUTE "00", 64, 9, 2, ""},
+    {"RADIUS write: bytes left over and no record", "00", 64, 9, 0, ""},
+    {"RADIUS write: bytes left over after a bad record", ATTRIBUTE UNFIT "00", 64, 9, 1, ""},
+    {"RADIUS write: bytes left over and no room", ATTRIBUTE "00", 0, 9, 1, ""},
+    {"RADIUS write: a byte too few", ATTRIBUTE, 24, 11, 25, ""},
+    {"RADIUS write: a byte too few, and no record", "", 19, 11, 20, ""},
+    {"RADIUS write: an output of length 0", ATTRIBUTE ATTRIBUTE, 0, 11, 30, ""},
+};
+
+// Where it is accepted, `packet` is what is written; else nothing is.
+static void write_packet(const char *name, const uint8_t *table, size_t table_length, const uint8_t *pool, size_t pool_length,
+                         size_t room, uint64_t number, uint64_t amount, const uint8_t *packet, size_t total) {
+    static uint8_t out[PACKET_MOST + BEHIND];
+    uint8_t authenticator[TANDREKILY_AUTHENTICATOR];
+    uint64_t result[TANDREKILY_RADIUS_RESULT + 1];
+    uint64_t expected[TANDREKILY_RADIUS_RESULT] = {number, amount};
+    expected[TANDREKILY_LENGTH] = total;
+    bytes_of("A0A1A2A3 A4A5A6A7 A8A9AAAB ACADAEAF", authenticator);
+    memset(out, LENT, sizeof out);
+    spoil(TANDREKILY_RADIUS_RESULT + 1, result);
+    tandrekily_radius_write(4, 7, authenticator, table, table_length, pool, pool_length, out, room, result);
+    check_radius(name, expected, result);
+    check(name, "the packet is another", memcmp(out, packet, total) == 0);
+    check(name, "bytes past the total were changed", all(LENT, out + total, sizeof out - total));
+}
+
+// So many records of this length, and those of `last` after them; the data of all are the same letters.
+static size_t long_table(size_t records, uint32_t length, const char *last, uint8_t *table) {
+    size_t used = records * TANDREKILY_RECORD_SIZE;
+    for (size_t i = 0; i < used; i += TANDREKILY_RECORD_SIZE) {
+        bytes_of("00000012 00 000000 00000000 00000000 01 0A 00 00 00000000 00000000 00000000", table + i);
+        table[i + TANDREKILY_RECORD_LENGTH + 1] = (uint8_t)(length >> 8);
+        table[i + TANDREKILY_RECORD_LENGTH + 2] = (uint8_t)length;
+    }
+    return used + bytes_of(last, table + used);
+}
+
+// The packet of such a table, which is 4,096 bytes long.
+static size_t long_packet(const uint8_t *table, size_t table_length, uint8_t *packet) {
+    size_t total = bytes_of(PACKET("1000"), packet);
+    for (size_t i = 0; i < table_length; i += TANDREKILY_RECORD_SIZE) {
+        uint8_t size = table[i + TANDREKILY_RECORD_LENGTH + 2];
+        memset(packet + total, 'a', size);
+        packet[total] = 0x12;
+        packet[total + 1] = size;
+        total += size;
+    }
+    return total;
+}
+
+static void write_long(const char *name, size_t records, uint32_t length, const char *last, uint64_t number, uint64_t amount,
+                       size_t room) {
+    static uint8_t table[STORE_MOST], packet[PACKET_MOST];
+    uint8_t pool[MOST];
+    size_t table_length = long_table(records, length, last, table);
+    size_t total = number == TANDREKILY_ACCEPTED ? long_packet(table, table_length, packet) : 0;
+    memset(pool, 'a', sizeof pool);
+    write_packet(name, table, table_length, pool, sizeof pool, room, number, amount, packet, total);
+}
+
+// 15 records of 255 bytes and one of 251 are 4,096 with the header.
+#define OF_251 "00000012 00 0000FB 00000000 00000000 01 0A 00 00 00000000 00000000 00000000"
+#define OF_252 "00000012 00 0000FC 00000000 00000000 01 0A 00 00 00000000 00000000 00000000"
+
+static void radius_writer(void) {
+    uint8_t table[MOST], pool[MOST], packet[MOST];
+    size_t pool_length = bytes_of("626F62", pool);
+    for (size_t i = 0; i < sizeof packets_written / sizeof *packets_written; i++) {
+        const struct packet_written *w = &packets_written[i];
+        size_t table_length = bytes_of(w->table, table), total = bytes_of(w->packet, packet);
+        write_packet(w->name, table, table_length, pool, pool_length, w->room, w->number, w->amount, packet, total);
+    }
+    write_long("RADIUS write: 4,096 bytes", 15, 255, OF_251, 0, 0, PACKET_MOST);
+    write_long("RADIUS write: 4,096 bytes of attributes without data", 2038, 2, "", 0, 0, PACKET_MOST + 1);
+    write_long("RADIUS write: 4,096 bytes, and room for a byte less", 15, 255, OF_251, 11, 4096, PACKET_MOST - 1);
+    write_long("RADIUS write: 4,097 bytes", 15, 255, OF_252, 10, 0, PACKET_MOST + 1);
+    write_long("RADIUS write: 4,097 bytes, and no room", 15, 255, OF_252, 10, 0, 0);
+    write_long("RADIUS write: 4,098 bytes of attributes without data", 2039, 2, "", 10, 0, PACKET_MOST + 2);
+    write_long("RADIUS write: 4,097 bytes, and a bad record after them", 15, 255, OF_252 DEEPER "00", 9, 16, 0);
+    write_long("RADIUS write: length 256", 1, 256, "", 9, 0, PACKET_MOST);
+}
+
 int main(void) {
     decoders();
     editions();
@@ -805,6 +1221,9 @@ int main(void) {
     times();
     signs();
     unit_values();
+    radius_reader();
+    radius_texts();
+    radius_writer();
     printf("%d failures\n", failures);
     return failures == 0 ? 0 : 1;
 }

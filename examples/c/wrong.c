@@ -31,10 +31,16 @@ int64_t __real_tandrekily_integer64(uint64_t);
 int64_t __wrap_tandrekily_integer64(uint64_t);
 typedef uint8_t comparer(int64_t, int32_t, int64_t, int32_t, int32_t *);
 comparer __real_tandrekily_compare, __wrap_tandrekily_compare;
+typedef void radius_decoder(const uint8_t *, size_t, uint8_t *, size_t, uint8_t *, uint64_t *);
+radius_decoder __real_tandrekily_radius, __wrap_tandrekily_radius;
+typedef void radius_writer(uint8_t, uint8_t, const uint8_t *, const uint8_t *, size_t, const uint8_t *, size_t, uint8_t *, size_t,
+                           uint64_t *);
+radius_writer __real_tandrekily_radius_write, __wrap_tandrekily_radius_write;
 
 // Each function's ways to be wrong are numbered from a hundred of its own; the first are the numbers of its result or outline.
 enum { MESSAGE = 100, AVP = 200, HEADER = 300, WRITE = 400, IS_UTF8 = 500, UNIX_SECONDS = 600, FIND = 700, NEXT = 800 };
 enum { MESSAGE_BY = 900, AVP_BY = 1000, INTEGER32 = 1100, INTEGER64 = 1200, COMPARE = 1300, UTF8 = 1400 };
+enum { RADIUS = 1500, RADIUS_WRITE = 1600 };
 enum { TOUCHED_IF_REFUSED = 20, TAIL_IF_ACCEPTED = 21, OTHER_READING = 22, OTHER_LIMIT = 23, BYTE = 40 };
 enum { OTHER_CODE = 24, LAST = 25, NONE_IF_NOT_TILED = 26, NOT_TILED_IF_NONE = 27 };
 enum { STAYS = 28, FURTHER = 29, LATER = 30 };
@@ -46,6 +52,12 @@ enum { ONE_MORE, ONE_LESS, NOTHING, ALL, NOTHING_IF_BROKEN, NOTHING_IF_WELL_FORM
 enum { REST_TOO = 9, SURROGATES_TOO, OVERLONG_TOO, LOW_BYTE };
 enum { OTHER_ANSWER, OPPOSITE, NEVER_EQUAL, ORDER_IF_REFUSED, TAKES_19, TAKES_MINUS_19, REFUSES_18, REFUSES_MINUS_18 };
 enum { EXPONENT_LOW_BITS = 8, NO_EXPONENTS, FIRST_ALONE, SECOND_ALONE, ZEROS_TAKEN, SIGNS_TAKEN, DOUBLES, WRAPPED, WHOLE };
+enum { RESULT_TOO_LONG = 78, AUTHENTICATOR_TOO_LONG, AUTHENTICATOR_BYTE, AUTHENTICATOR_IF_REFUSED = 96 };
+enum { HEADER_FIRST = 8, NO_LEAST, NO_MOST, MOST_4095, SURPLUS_REFUSED, SURPLUS_READ, LEFT_OVER_TAKEN, ROOM_FIRST, LONG_NUMBERS };
+enum { NAME_IS_TEXT = 22, SESSION_IS_STRING, UNKNOWN_IS_STRING, LOW_BITS_OF_TYPE, FIRST_FLAGS, LAST_FLAGS, SECOND_RECORD };
+enum { ANY_TYPE = 8, ANY_LENGTH, NO_LEAST_LENGTH, ANY_DEPTH, ANY_FLAGS, ANY_VENDOR, ANY_PADDING, ANY_PADS, ANY_PLACE, PLACE_LOW_BITS };
+enum { EMPTY_ANYWHERE = 22, KIND_READ, ERRORS_READ, ZERO_READ, VALUE_READ, LEFT_OVER_WRITTEN, LEFT_OVER_FIRST, TOTAL_4095 };
+enum { ROOM_BEFORE_TOTAL = 30, LENGTH_BEFORE_TABLE, SECOND_DATA };
 
 static int wrong(int function) {
     return atoi(getenv("WRONG")) - function;
@@ -72,11 +84,11 @@ static size_t number_at(const uint8_t *at, int size) {
     return number;
 }
 
-// How many bytes of a record's data would be well-formed text.
-static size_t valid_data(const uint8_t *record, const uint8_t *input) {
+// How many bytes of a record's data would be well-formed text. The header before them has `head` bytes, and a vendor besides.
+static size_t valid_data(size_t head, const uint8_t *record, const uint8_t *input) {
     bool vendor = record[TANDREKILY_RECORD_FLAGS] & TANDREKILY_AVP_VENDOR_BIT;
-    size_t length = number_at(record + TANDREKILY_RECORD_LENGTH, 3);
-    length -= vendor ? TANDREKILY_AVP_HEAD_WITH_VENDOR : TANDREKILY_AVP_HEAD;
+    size_t length = number_at(record + TANDREKILY_RECORD_LENGTH, 3) - head;
+    if (vendor) length -= TANDREKILY_AVP_HEAD_WITH_VENDOR - TANDREKILY_AVP_HEAD;
     return __real_tandrekily_utf8(input + number_at(record + TANDREKILY_RECORD_PLACE, 4), length);
 }
 
@@ -88,21 +100,21 @@ static bool gets_break(int way, uint8_t errors) {
 }
 
 // Where a text broke is left out, cut to a byte or counted from the input's start, or other records of kind 0 have such a number too.
-static void spoil_breaks(int way, uint8_t *store, uint64_t records, const uint8_t *input) {
+static void spoil_breaks(int way, size_t head, uint8_t *store, uint64_t records, const uint8_t *input) {
     for (uint8_t *record = store; records > 0; records--, record += TANDREKILY_RECORD_SIZE) {
         uint8_t *value = record + TANDREKILY_RECORD_VALUE;
         if (record[TANDREKILY_RECORD_KIND] != TANDREKILY_UNHANDLED) continue;
         if (way == NO_BREAK) memset(value, 0, 8);
         if (way == BREAK_IN_A_BYTE) memset(value, 0, 7);
         if (way == BREAK_IN_INPUT && value[7] != 0) value[7] += record[TANDREKILY_RECORD_PLACE + 3];
-        if (gets_break(way, record[TANDREKILY_RECORD_ERRORS])) value[7] = (uint8_t)valid_data(record, input);
+        if (gets_break(way, record[TANDREKILY_RECORD_ERRORS])) value[7] = (uint8_t)valid_data(head, record, input);
     }
 }
 
 static void spoil_decoder(int way, decoder *decode, bool rfc, size_t limit, const uint8_t *input, size_t n, uint8_t *store,
                           size_t room, uint64_t *result) {
     decode(rfc ^ (way == OTHER_READING), limit + (way == OTHER_LIMIT), input, n, store, room, result);
-    spoil_breaks(way, store, result[TANDREKILY_RECORDS], input);
+    spoil_breaks(way, TANDREKILY_AVP_HEAD, store, result[TANDREKILY_RECORDS], input);
     size_t used = (size_t)result[TANDREKILY_RECORDS] * TANDREKILY_RECORD_SIZE;
     spoil_bytes(way, result[TANDREKILY_NUMBER] == TANDREKILY_ACCEPTED, store, room, used);
     spoil_result(way, result);
@@ -262,7 +274,7 @@ static void spoil_decoder_by(int way, decoder_by *decode_by, decoder *decode, ui
     if (way == NO_EDITION && is_edition(edition)) decode(true, limit, input, n, store, room, result);
     else decode_by(edition_asked(way, edition, n), limit, input, n, store, room, result);
     if (way == SIGN_EXTENDED) extend_signs(store, result[TANDREKILY_RECORDS]);
-    spoil_breaks(way, store, result[TANDREKILY_RECORDS], input);
+    spoil_breaks(way, TANDREKILY_AVP_HEAD, store, result[TANDREKILY_RECORDS], input);
     size_t used = (size_t)result[TANDREKILY_RECORDS] * TANDREKILY_RECORD_SIZE;
     spoil_bytes(way, result[TANDREKILY_NUMBER] == TANDREKILY_ACCEPTED, store, room, used);
     spoil_result(way, result);
@@ -353,7 +365,183 @@ uint8_t __wrap_tandrekily_compare(int64_t digits, int32_t exponent, int64_t othe
     if (number == TANDREKILY_ACCEPTED) {
         if (way == OPPOSITE) *order = -*order;
         if (way == NEVER_EQUAL && *order == TANDREKILY_EQUAL) *order = TANDREKILY_GREATER;
-        if (way >= DOUBLES) *order = inexact(way, digits, exponent, other_digits, other_exponent);
+        if (way >= DOUBLES && way <= WHOLE) *order = inexact(way, digits, exponent, other_digits, other_exponent);
     }
     return number ^ (way == OTHER_ANSWER);
+}
+
+// ---- RADIUS
+
+enum { PACKET_MOST = 4096, PACKET_HEADER = 20, TABLE_MOST = 2048 * TANDREKILY_RECORD_SIZE };
+
+static void spoil_radius(int way, uint64_t *result) {
+    if (way >= 0 && way < TANDREKILY_RADIUS_RESULT) result[way] ^= 1;
+    if (way == RESULT_TOO_LONG) result[TANDREKILY_RADIUS_RESULT] = 0;
+}
+
+static bool refuse(uint64_t *result, uint64_t number, uint64_t amount) {
+    memset(result, 0, TANDREKILY_RADIUS_RESULT * sizeof *result);
+    result[TANDREKILY_NUMBER] = number;
+    result[TANDREKILY_AMOUNT] = amount;
+    return true;
+}
+
+// The header's tests in another order or with other bounds: is the input refused by them?
+static bool refused_by_header(int way, const uint8_t *input, size_t n, uint64_t *result) {
+    if (way == HEADER_FIRST && n < PACKET_HEADER) return refuse(result, TANDREKILY_INCOMPLETE, PACKET_HEADER - n);
+    if (n < 4) return false;
+    size_t length = number_at(input + 2, 2);
+    bool other_bounds = (way == NO_LEAST && length < PACKET_HEADER) || (way == NO_MOST && length > PACKET_MOST);
+    if (other_bounds && n < length) return refuse(result, TANDREKILY_INCOMPLETE, length - n);
+    if (way == MOST_4095 && length == PACKET_MOST) return refuse(result, TANDREKILY_BAD_LENGTH, 0);
+    if (way == SURPLUS_REFUSED && n > length) return refuse(result, TANDREKILY_BAD_LENGTH, 0);
+    return false;
+}
+
+static uint8_t type_asked(int way, uint8_t type) {
+    if (way == NAME_IS_TEXT && type == 1) return 11;
+    if (way == SESSION_IS_STRING && type == 44) return 1;
+    if (way == UNKNOWN_IS_STRING && type >= 64) return 1;
+    return way == LOW_BITS_OF_TYPE ? type % 64 : type;
+}
+
+static void set_length(uint8_t *packet, size_t length) {
+    packet[2] = (uint8_t)(length >> 8);
+    packet[3] = (uint8_t)length;
+}
+
+// The input that is asked about in place of the one given: of another length, or with other types.
+static const uint8_t *input_asked(int way, const uint8_t *input, size_t n) {
+    static uint8_t packet[PACKET_MOST + 8];
+    if (n < PACKET_HEADER || n > sizeof packet) return input;
+    memcpy(packet, input, n);
+    if (way == SURPLUS_READ && number_at(input + 2, 2) <= n) set_length(packet, n);
+    for (size_t at = PACKET_HEADER; at + 1 < n && packet[at + 1] > 1; at += packet[at + 1]) packet[at] = type_asked(way, packet[at]);
+    return packet;
+}
+
+// An address or an integer that is too long is taken for its first four bytes, as Diameter's are.
+static void take_four(uint8_t *record, const uint8_t *input) {
+    bool is_long = record[TANDREKILY_RECORD_LENGTH + 2] > TANDREKILY_ATTRIBUTE_HEAD + 4;
+    if (!is_long || record[TANDREKILY_RECORD_ERRORS] != TANDREKILY_DATA_LENGTH) return;
+    record[TANDREKILY_RECORD_KIND] = TANDREKILY_UNSIGNED_32;
+    memcpy(record + TANDREKILY_RECORD_VALUE + 4, input + number_at(record + TANDREKILY_RECORD_PLACE, 4), 4);
+}
+
+// A record has the type that was given, whatever type was asked about.
+static void spoil_records(int way, uint8_t *store, const uint8_t *input, uint64_t *result) {
+    uint64_t records = result[TANDREKILY_RECORDS];
+    for (uint64_t i = 0; i < records; i++) {
+        uint8_t *record = store + i * TANDREKILY_RECORD_SIZE;
+        record[TANDREKILY_RECORD_CODE + 3] = input[number_at(record + TANDREKILY_RECORD_PLACE, 4) - TANDREKILY_ATTRIBUTE_HEAD];
+        if (way == LONG_NUMBERS) take_four(record, input);
+    }
+    if (way == SECOND_RECORD && records > 1) store[TANDREKILY_RECORD_SIZE + TANDREKILY_RECORD_PLACE + 3] ^= 1;
+    if (way == FIRST_FLAGS && records > 0) result[TANDREKILY_ERRORS] = store[TANDREKILY_RECORD_ERRORS];
+    if (way == LAST_FLAGS && records > 0)
+        result[TANDREKILY_ERRORS] = store[(records - 1) * TANDREKILY_RECORD_SIZE + TANDREKILY_RECORD_ERRORS];
+}
+
+// As if the last byte of a packet were not of it, where it is one that is left over.
+static void drop_last(const uint8_t *input, size_t n, uint8_t *store, size_t room, uint8_t *authenticator, uint64_t *result) {
+    static uint8_t packet[PACKET_MOST + 8];
+    size_t length = number_at(input + 2, 2);
+    memcpy(packet, input, n);
+    set_length(packet, length - 1);
+    __real_tandrekily_radius(packet, n, store, room, authenticator, result);
+    if (result[TANDREKILY_NUMBER] == TANDREKILY_ACCEPTED) result[TANDREKILY_LENGTH] = length;
+}
+
+static void spoil_authenticator(int way, bool accepted, uint8_t *authenticator) {
+    if (way == AUTHENTICATOR_IF_REFUSED && !accepted) authenticator[0] = 0;
+    if (way == AUTHENTICATOR_TOO_LONG && accepted) authenticator[TANDREKILY_AUTHENTICATOR] = 0;
+    if (way >= AUTHENTICATOR_BYTE && way < AUTHENTICATOR_BYTE + TANDREKILY_AUTHENTICATOR && accepted)
+        authenticator[way - AUTHENTICATOR_BYTE] ^= 1;
+}
+
+void __wrap_tandrekily_radius(const uint8_t *input, size_t n, uint8_t *store, size_t room, uint8_t *authenticator, uint64_t *result) {
+    int way = wrong(RADIUS);
+    if (refused_by_header(way, input, n, result)) return;
+    __real_tandrekily_radius(input_asked(way, input, n), n, store, room, authenticator, result);
+    bool not_tiled = result[TANDREKILY_NUMBER] == TANDREKILY_NOT_TILED;
+    if (way == LEFT_OVER_TAKEN && not_tiled) drop_last(input, n, store, room, authenticator, result);
+    if (way == ROOM_FIRST && not_tiled && room == 0) refuse(result, TANDREKILY_NO_RECORDS, 1);
+    bool accepted = result[TANDREKILY_NUMBER] == TANDREKILY_ACCEPTED;
+    spoil_records(way, store, input, result);
+    spoil_breaks(way, TANDREKILY_ATTRIBUTE_HEAD, store, result[TANDREKILY_RECORDS], input);
+    spoil_bytes(way, accepted, store, room, (size_t)result[TANDREKILY_RECORDS] * TANDREKILY_RECORD_SIZE);
+    spoil_authenticator(way, accepted, authenticator);
+    spoil_radius(way, result);
+}
+
+// Does the record have a field that is not to be read, and this way reads it?
+static bool reads_more(int way, const uint8_t *record) {
+    if (way == KIND_READ) return record[TANDREKILY_RECORD_KIND] > TANDREKILY_TIME;
+    if (way == ERRORS_READ) return record[TANDREKILY_RECORD_ERRORS] != 0;
+    if (way == ZERO_READ) return record[TANDREKILY_RECORD_ZERO] != 0;
+    return way == VALUE_READ && record[TANDREKILY_RECORD_VALUE] != 0;
+}
+
+static void forgive_length(int way, uint8_t *length) {
+    if (way == ANY_LENGTH) memset(length, 0, 2);
+    if (way == NO_LEAST_LENGTH && number_at(length, 3) < TANDREKILY_ATTRIBUTE_HEAD) length[2] = TANDREKILY_ATTRIBUTE_HEAD;
+}
+
+static void forgive_place(int way, size_t end, size_t pool_length, uint8_t *place) {
+    bool empty = end == number_at(place, 4);
+    bool past = end > pool_length;
+    if ((way == ANY_PLACE && past) || (way == EMPTY_ANYWHERE && past && empty)) memset(place, 0, 4);
+    if (way == PLACE_LOW_BITS) memset(place, 0, 2);
+}
+
+// Makes what breaks the rule that this way does not know keep it; what it should not read makes it break one.
+static void forgive(int way, size_t pool_length, uint8_t *record) {
+    uint8_t *place = record + TANDREKILY_RECORD_PLACE;
+    size_t size = record[TANDREKILY_RECORD_LENGTH + 2] - (size_t)TANDREKILY_ATTRIBUTE_HEAD;
+    if (way == ANY_TYPE) memset(record + TANDREKILY_RECORD_CODE, 0, 3);
+    if (way == ANY_DEPTH) record[TANDREKILY_RECORD_DEPTH] = 1;
+    if (way == ANY_FLAGS) record[TANDREKILY_RECORD_FLAGS] = 0;
+    if (way == ANY_VENDOR) memset(record + TANDREKILY_RECORD_VENDOR, 0, 4);
+    if (way == ANY_PADDING) record[TANDREKILY_RECORD_PADDING] = 0;
+    if (way == ANY_PADS) memset(record + TANDREKILY_RECORD_PADS, 0, 3);
+    if (reads_more(way, record)) record[TANDREKILY_RECORD_DEPTH] = 0;
+    forgive_length(way, record + TANDREKILY_RECORD_LENGTH);
+    forgive_place(way, number_at(place, 4) + size, pool_length, place);
+}
+
+static size_t total_of(const uint8_t *table, size_t table_length) {
+    size_t total = PACKET_HEADER;
+    for (size_t i = 0; i + TANDREKILY_RECORD_SIZE <= table_length; i += TANDREKILY_RECORD_SIZE)
+        total += number_at(table + i + TANDREKILY_RECORD_LENGTH, 3);
+    return total;
+}
+
+// The writer's refusals in another order or with another bound: is the table refused by them?
+static bool refused_by_table(int way, const uint8_t *table, size_t table_length, size_t room, uint64_t *result) {
+    size_t total = total_of(table, table_length);
+    uint64_t number = result[TANDREKILY_NUMBER];
+    bool left_over = table_length % TANDREKILY_RECORD_SIZE != 0;
+    if (way == LEFT_OVER_FIRST && left_over) return refuse(result, TANDREKILY_BAD_TABLE, table_length / TANDREKILY_RECORD_SIZE);
+    if (way == LENGTH_BEFORE_TABLE && total > PACKET_MOST) return refuse(result, TANDREKILY_TOO_LONG, 0);
+    if (way == TOTAL_4095 && total == PACKET_MOST) return refuse(result, TANDREKILY_TOO_LONG, 0);
+    if (way == ROOM_BEFORE_TOTAL && number == TANDREKILY_TOO_LONG && room < total) return refuse(result, TANDREKILY_NO_ROOM, total);
+    return false;
+}
+
+void __wrap_tandrekily_radius_write(uint8_t code, uint8_t identifier, const uint8_t *authenticator, const uint8_t *table,
+                                    size_t table_length, const uint8_t *pool, size_t pool_length, uint8_t *out, size_t room,
+                                    uint64_t *result) {
+    static uint8_t asked[TABLE_MOST];
+    int way = wrong(RADIUS_WRITE);
+    size_t whole = table_length - table_length % TANDREKILY_RECORD_SIZE;
+    memcpy(asked, table, table_length);
+    for (size_t i = 0; i < whole; i += TANDREKILY_RECORD_SIZE) forgive(way, pool_length, asked + i);
+    size_t length = way == LEFT_OVER_WRITTEN ? whole : table_length;
+    __real_tandrekily_radius_write(code, identifier, authenticator, asked, length, pool, pool_length, out, room, result);
+    refused_by_table(way, table, table_length, room, result);
+    bool accepted = result[TANDREKILY_NUMBER] == TANDREKILY_ACCEPTED;
+    size_t used = (size_t)result[TANDREKILY_LENGTH];
+    if (way == SECOND_DATA && accepted && whole > TANDREKILY_RECORD_SIZE) out[used - 1] ^= 1;
+    spoil_bytes(way, accepted, out, room, used);
+    spoil_radius(way, result);
 }

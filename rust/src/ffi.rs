@@ -1,4 +1,4 @@
-//! The unsafe boundary: twelve functions of the proved library, and one safe wrapper for each. No other file may have `unsafe`.
+//! The unsafe boundary: fourteen functions of the proved library, and one safe wrapper for each. No other file may have `unsafe`.
 //! The library has two more, `tandrekily_integer32` and `tandrekily_integer64`, for which Rust has casts.
 //!
 //! The declarations are those of `crates/tandrekily/src/lib.rt`. What every call below relies on:
@@ -17,11 +17,17 @@ pub type Numbers = [u64; 13];
 /// The numbers of an outline, in the order in which [`Outline::of`](crate::Outline::of) takes them apart.
 pub type OutlineNumbers = [u64; 10];
 
+/// The numbers of a result of RADIUS, in the order in which [`radius`](crate::radius) takes them apart.
+pub type RadiusNumbers = [u64; 8];
+
 /// A result before the call. The library writes all of it.
 const NOTHING: Numbers = [0; 13];
 
 /// An outline before the call. The library writes all of it too.
 const NO_OUTLINE: OutlineNumbers = [0; 10];
+
+/// A result of RADIUS before the call. The library writes all of it too.
+const NO_PACKET: RadiusNumbers = [0; 8];
 
 extern "C" {
     fn tandrekily_message(
@@ -103,6 +109,28 @@ extern "C" {
         other_exponent: i32,
         order: *mut i32,
     ) -> u8;
+
+    fn tandrekily_radius(
+        input: *const u8,
+        input_len: usize,
+        store: *mut u8,
+        store_len: usize,
+        authenticator: *mut [u8; 16],
+        result: *mut RadiusNumbers,
+    );
+
+    fn tandrekily_radius_write(
+        code: u8,
+        identifier: u8,
+        authenticator: *const [u8; 16],
+        table: *const u8,
+        table_len: usize,
+        pool: *const u8,
+        pool_len: usize,
+        out: *mut u8,
+        out_len: usize,
+        result: *mut RadiusNumbers,
+    );
 }
 
 pub fn message(rfc: bool, limit: usize, input: &[u8], store: &mut [u8]) -> Numbers {
@@ -250,4 +278,48 @@ pub fn compare(one: crate::UnitValue, other: crate::UnitValue) -> (u8, i32) {
         )
     };
     (number, order)
+}
+
+/// The second is the authenticator, and zeros where the packet is refused.
+pub fn radius(input: &[u8], store: &mut [u8]) -> (RadiusNumbers, [u8; 16]) {
+    let mut result = NO_PACKET;
+    let mut authenticator = [0; 16];
+    // SAFETY: `input` and `store` are two live slices, the second of them exclusive, so they don't overlap; `authenticator` is 16 bytes
+    // and `result` 8 numbers of this frame.
+    unsafe {
+        tandrekily_radius(
+            input.as_ptr(),
+            input.len(),
+            store.as_mut_ptr(),
+            store.len(),
+            &mut authenticator,
+            &mut result,
+        );
+    }
+    (result, authenticator)
+}
+
+pub fn radius_write(
+    header: crate::radius::Header,
+    table: &[u8],
+    pool: &[u8],
+    out: &mut [u8],
+) -> RadiusNumbers {
+    let mut result = NO_PACKET;
+    // SAFETY: the authenticator is 16 bytes of this frame, which are only read; the rest is as for `write`, with 8 numbers.
+    unsafe {
+        tandrekily_radius_write(
+            header.code,
+            header.identifier,
+            &header.authenticator,
+            table.as_ptr(),
+            table.len(),
+            pool.as_ptr(),
+            pool.len(),
+            out.as_mut_ptr(),
+            out.len(),
+            &mut result,
+        );
+    }
+    result
 }

@@ -1,4 +1,5 @@
-//! A decoder and a writer of Diameter messages (RFC 6733), over a library in which every function is proved to meet its contract.
+//! A decoder and a writer of Diameter messages (RFC 6733) and of [RADIUS](radius) packets (RFC 2865, RFC 2866), over a library in which
+//! every function is proved to meet its contract.
 //!
 //! A message is decoded into a flat table of [`Record`]s in memory that the caller lends; an iterator gives each AVP with its
 //! typed [`Value`]. The writer turns such a table back into a message. Nothing is allocated, nothing is asked of the bytes, and a
@@ -118,6 +119,7 @@ mod edition;
 #[allow(unsafe_code)]
 mod ffi;
 mod header;
+pub mod radius;
 mod reader;
 mod record;
 mod refusal;

@@ -84,7 +84,7 @@ impl Outline {
 
     /// The AVP's data in the input that the outline came from. None where the outline doesn't fit this input.
     pub fn data<'a>(&self, input: &'a [u8]) -> Option<&'a [u8]> {
-        data_at(input, self.place, self.flags, self.length)
+        data_at(input, self.place, self.header_size(), self.length)
     }
 }
 

@@ -4,7 +4,8 @@ use core::iter::FusedIterator;
 
 use crate::{Reading, Value};
 
-/// One AVP as a row of the table: its header, where its data stand, and what was found of them.
+/// One AVP as a row of the table: its header, where its data stand, and what was found of them. An attribute of
+/// [RADIUS](crate::radius) is a row of the same fields.
 ///
 /// A group stands before its members, which are one deeper. In the table a record is [`SIZE`](Record::SIZE) bytes, its numbers
 /// big-endian; [`to_bytes`](Record::to_bytes) makes a row for [`write`](crate::write).
@@ -40,6 +41,29 @@ fn number(bytes: &[u8]) -> u64 {
     bytes.iter().fold(0, |n, &byte| n << 8 | u64::from(byte))
 }
 
+/// What a table is of: it says how long the header is that stands before the data, and how a value is read.
+#[derive(Clone, Copy, Debug)]
+pub(crate) enum Format {
+    Diameter(Reading),
+    Radius,
+}
+
+impl Format {
+    /// An attribute's header is a type and a length (RFC 2865, section 5).
+    fn header_size(self, flags: u8) -> usize {
+        match self {
+            Format::Diameter(_) => header_size(flags),
+            Format::Radius => 2,
+        }
+    }
+
+    /// The data of a record of this format. None where it doesn't fit the input.
+    pub(crate) fn data<'a>(self, record: &Record, input: &'a [u8]) -> Option<&'a [u8]> {
+        let header_size = self.header_size(record.flags);
+        data_at(input, record.place as usize, header_size, record.length)
+    }
+}
+
 /// How long an AVP's header is, by its flags.
 pub(crate) fn header_size(flags: u8) -> usize {
     if flags & Record::VENDOR_SPECIFIC_FLAG != 0 {
@@ -49,9 +73,14 @@ pub(crate) fn header_size(flags: u8) -> usize {
     }
 }
 
-/// The data of an AVP with these flags and this length, if they stand at this place of the input.
-pub(crate) fn data_at(input: &[u8], place: usize, flags: u8, length: u32) -> Option<&[u8]> {
-    let size = (length as usize).checked_sub(header_size(flags))?;
+/// The data behind a header of this size, which is in the length, if they stand at this place of the input.
+pub(crate) fn data_at(
+    input: &[u8],
+    place: usize,
+    header_size: usize,
+    length: u32,
+) -> Option<&[u8]> {
+    let size = (length as usize).checked_sub(header_size)?;
     input.get(place..)?.get(..size)
 }
 
@@ -130,50 +159,55 @@ impl Record {
         header_size(self.flags)
     }
 
-    /// The AVP's data in the input that the record came from. None where the record doesn't fit this input.
+    /// The AVP's data in the input that the record came from. None where the record doesn't fit this input. A record doesn't know
+    /// that it is of RADIUS, where the header is shorter: [`Avp::data`] does.
     pub fn data<'a>(&self, input: &'a [u8]) -> Option<&'a [u8]> {
-        data_at(input, self.place as usize, self.flags, self.length)
+        data_at(input, self.place as usize, self.header_size(), self.length)
     }
 }
 
-/// A record with the input at hand, so that its data and its value can be had.
+/// A record with the input at hand, so that its data and its value can be had: an AVP, or an attribute of [RADIUS](crate::radius).
 #[derive(Clone, Copy, Debug)]
 pub struct Avp<'a> {
     /// The row of the table.
     pub record: Record,
-    reading: Reading,
+    format: Format,
     input: &'a [u8],
 }
 
 impl<'a> Avp<'a> {
     /// The data, without the padding. None only if the table isn't of this input.
     pub fn data(&self) -> Option<&'a [u8]> {
-        self.record.data(self.input)
+        self.format.data(&self.record, self.input)
     }
 
     /// The value. Text is checked again here, so ask once.
     pub fn value(&self) -> Value<'a> {
-        Value::new(&self.record, self.reading, self.input)
+        Value::of(&self.record, self.format, self.input)
     }
 }
 
-/// An iterator over the AVPs of a table, each group before its members.
+/// An iterator over the AVPs or attributes of a table, each group before its members.
 #[derive(Clone, Debug)]
 pub struct Records<'a> {
     table: &'a [u8],
-    reading: Reading,
+    format: Format,
     input: &'a [u8],
 }
 
 impl<'a> Records<'a> {
     /// The records of any table, such as one that was kept: the reading and the input should be those that it was decoded from,
     /// and [`Reading::Rfc`] for one by an edition. Nothing is asked of them all the same. Bytes after the last whole record are
-    /// left out.
+    /// left out. [`radius::records`](crate::radius::records) is for those of RADIUS.
     pub fn new(table: &'a [u8], reading: Reading, input: &'a [u8]) -> Records<'a> {
+        Records::of(table, Format::Diameter(reading), input)
+    }
+
+    pub(crate) fn of(table: &'a [u8], format: Format, input: &'a [u8]) -> Records<'a> {
         let whole = table.len() - table.len() % Record::SIZE;
         Records {
             table: &table[..whole],
-            reading,
+            format,
             input,
         }
     }
@@ -186,7 +220,7 @@ impl<'a> Records<'a> {
     fn avp(&self, row: &[u8; Record::SIZE]) -> Avp<'a> {
         Avp {
             record: Record::from_bytes(row),
-            reading: self.reading,
+            format: self.format,
             input: self.input,
         }
     }

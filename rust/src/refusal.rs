@@ -8,7 +8,8 @@ use core::fmt::{Display, Formatter, Result};
 /// Where more than one holds, the first is given, in this order: to decode a message, [`BadDepth`](Refusal::BadDepth), then, by an
 /// edition, [`BadEdition`](Refusal::BadEdition), then [`Incomplete`](Refusal::Incomplete), [`NotVersion`](Refusal::NotVersion) and [`BadLength`](Refusal::BadLength) as the header's
 /// bytes are read, then [`NotTiled`](Refusal::NotTiled), [`TooDeep`](Refusal::TooDeep), [`NoRecords`](Refusal::NoRecords); to
-/// find an AVP, those of the header and then [`NotTiled`](Refusal::NotTiled); to write, the writer's four in the order below.
+/// find an AVP, those of the header and then [`NotTiled`](Refusal::NotTiled); to write, the writer's four in the order below. Those of
+/// RADIUS are said at [`radius::decode`](crate::radius::decode) and [`radius::write`](crate::radius::write()).
 ///
 /// ```
 /// use tandrekily::{header, Refusal};
@@ -28,9 +29,10 @@ pub enum Refusal {
     /// The first byte isn't 1.
     NotVersion,
     /// The message's length is under 4, or under 20 with that many bytes there; for one AVP alone, its length is under its header's
-    /// size.
+    /// size; for a packet of RADIUS, its length is not 20 to 4,096.
     BadLength,
-    /// The AVPs don't cover the message to its last byte; to find one, none has the code before the place where they break off.
+    /// The AVPs or attributes don't cover the message to its last byte; to find one, none has the code before the place where they
+    /// break off.
     NotTiled,
     /// The message is nested deeper than the limit.
     TooDeep,
@@ -43,7 +45,7 @@ pub enum Refusal {
     /// Writer: the table breaks a rule. The index of the first record that does, or the number of records where bytes are left
     /// over after the last one.
     BadTable(usize),
-    /// Writer: the message's length would not fit 24 bits.
+    /// Writer: the message's length would not fit 24 bits, or a packet's would be over 4,096.
     TooLong,
     /// Writer: the output is too short: how long the message is.
     NoRoom(usize),
@@ -110,14 +112,16 @@ impl Display for Refusal {
         match self {
             Refusal::Incomplete(n) => write!(f, "at least {n} more bytes are needed"),
             Refusal::NotVersion => f.write_str("the version is not 1"),
-            Refusal::BadLength => f.write_str("a length is shorter than its own header"),
-            Refusal::NotTiled => f.write_str("the AVPs do not fill the message"),
+            Refusal::BadLength => {
+                f.write_str("a length is shorter than its own header, or too long")
+            }
+            Refusal::NotTiled => f.write_str("the AVPs or attributes do not fill the message"),
             Refusal::TooDeep => f.write_str("AVPs are nested deeper than the limit"),
             Refusal::NoRecords(n) => write!(f, "there is no room for {n} records"),
             Refusal::BadDepth => f.write_str("the depth limit is not 1 to 64"),
             Refusal::BadHeader => f.write_str("the command code does not fit 24 bits"),
             Refusal::BadTable(n) => write!(f, "the table breaks a rule at record {n}"),
-            Refusal::TooLong => f.write_str("the message's length does not fit 24 bits"),
+            Refusal::TooLong => f.write_str("the message would be longer than one may be"),
             Refusal::NoRoom(n) => write!(f, "there is no room for {n} bytes"),
             Refusal::BadEdition => f.write_str("the edition is neither 4006 nor 8506"),
             Refusal::BadExponent => f.write_str("an exponent is not -18 to 18"),

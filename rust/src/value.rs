@@ -3,6 +3,7 @@
 use core::net::{IpAddr, Ipv4Addr, Ipv6Addr};
 use core::str::from_utf8;
 
+use crate::record::Format;
 use crate::{Reading, Record};
 
 /// The numbers of the kinds, in a record's [`kind`](crate::Record::kind).
@@ -39,7 +40,7 @@ pub mod kinds {
     pub const TIME: u8 = 14;
 }
 
-/// The typed value of an AVP.
+/// The typed value of an AVP, or of an attribute of [RADIUS](crate::radius).
 #[derive(Clone, Copy, Debug, PartialEq)]
 #[non_exhaustive]
 pub enum Value<'a> {
@@ -87,21 +88,26 @@ impl<'a> Value<'a> {
     ///
     /// Any record is answered: where it doesn't fit the input, its value is [`Unhandled`](Value::Unhandled) with 0.
     pub fn new(record: &Record, reading: Reading, input: &'a [u8]) -> Value<'a> {
-        let text = || from_utf8(record.data(input)?).ok();
+        Value::of(record, Format::Diameter(reading), input)
+    }
+
+    pub(crate) fn of(record: &Record, format: Format, input: &'a [u8]) -> Value<'a> {
+        let data = format.data(record, input);
+        let text = || from_utf8(data?).ok();
         let value = match record.kind {
-            kinds::UNHANDLED => broken(record, input),
-            kinds::OCTET_STRING => record.data(input).map(Value::OctetString),
+            kinds::UNHANDLED => broken(record, data),
+            kinds::OCTET_STRING => data.map(Value::OctetString),
             kinds::UTF8_STRING => text().map(Value::Utf8String),
             kinds::DIAMETER_IDENTITY => text().map(Value::DiameterIdentity),
             kinds::DIAMETER_URI => text().map(Value::DiameterUri),
-            kinds::ADDRESS => address(record, reading, input).map(Value::Address),
-            kind => Value::of_bits(kind, reading, record.bits),
+            kinds::ADDRESS => address(record, format, data).map(Value::Address),
+            kind => Value::of_bits(kind, format, record.bits),
         };
         value.unwrap_or(Value::Unhandled { valid_up_to: 0 })
     }
 
     /// Numbers stand in the record itself; those of 32 bits in its low half.
-    fn of_bits(kind: u8, reading: Reading, bits: u64) -> Option<Value<'a>> {
+    fn of_bits(kind: u8, format: Format, bits: u64) -> Option<Value<'a>> {
         let low = bits as u32;
         Some(match kind {
             kinds::INTEGER32 => Value::Integer32(low as i32),
@@ -111,7 +117,7 @@ impl<'a> Value<'a> {
             kinds::FLOAT32 => Value::Float32(f32::from_bits(low)),
             kinds::FLOAT64 => Value::Float64(f64::from_bits(bits)),
             kinds::GROUPED => Value::Grouped,
-            kinds::ENUMERATED => Value::Enumerated(enumerated(reading, low)),
+            kinds::ENUMERATED => Value::Enumerated(enumerated(format, low)),
             kinds::TIME => Value::Time(low),
             _ => return None,
         })
@@ -119,30 +125,30 @@ impl<'a> Value<'a> {
 }
 
 /// Where the text broke. The decoder's number is always within the data; in another table it may be anything.
-fn broken<'a>(record: &Record, input: &[u8]) -> Option<Value<'a>> {
+fn broken<'a>(record: &Record, data: Option<&[u8]>) -> Option<Value<'a>> {
     let valid_up_to = usize::try_from(record.bits).ok()?;
-    let data = record.data(input)?;
-    (valid_up_to < data.len()).then_some(Value::Unhandled { valid_up_to })
+    (valid_up_to < data?.len()).then_some(Value::Unhandled { valid_up_to })
 }
 
-fn enumerated(reading: Reading, bits: u32) -> i64 {
-    match reading {
-        Reading::Sawp => bits.into(),
-        Reading::Rfc => (bits as i32).into(),
+/// RADIUS has no kind for it.
+fn enumerated(format: Format, bits: u32) -> i64 {
+    match format {
+        Format::Diameter(Reading::Rfc) => (bits as i32).into(),
+        _ => bits.into(),
     }
 }
 
-/// RFC 6733, section 4.3.1: a family of 2 bytes stands before the address. The sawp reading knows none.
-fn family_size(reading: Reading) -> usize {
-    match reading {
-        Reading::Sawp => 0,
-        Reading::Rfc => 2,
+/// RFC 6733, section 4.3.1: a family of 2 bytes stands before the address. The sawp reading and RADIUS know none.
+fn family_size(format: Format) -> usize {
+    match format {
+        Format::Diameter(Reading::Rfc) => 2,
+        _ => 0,
     }
 }
 
 /// The record tells the two families apart by the length alone.
-fn address(record: &Record, reading: Reading, input: &[u8]) -> Option<IpAddr> {
-    let address = record.data(input)?.get(family_size(reading)..)?;
+fn address(record: &Record, format: Format, data: Option<&[u8]>) -> Option<IpAddr> {
+    let address = data?.get(family_size(format)..)?;
     if address.len() == size_of::<Ipv4Addr>() {
         return Some(Ipv4Addr::from(record.bits as u32).into());
     }

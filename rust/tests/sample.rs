@@ -3,7 +3,7 @@
 mod frames;
 
 use frames::{be_u32, frames, replay, Frame};
-use tandrekily::{decode, decode_avp, decode_avp_by, decode_by, find, header, write};
+use tandrekily::{decode, decode_avp, decode_avp_by, decode_by, find, header, radius, write};
 use tandrekily::{Fields, Header, Message, OneAvp, Reader, Reading, Records, Refusal, UnitValue};
 
 const MESSAGE: u8 = 0;
@@ -14,12 +14,17 @@ const STEPS: u8 = 5;
 const MESSAGE_BY: u8 = 6;
 const AVP_BY: u8 = 7;
 const COMPARISON: u8 = 8;
+const PACKET: u8 = 9;
+const PACKET_TABLE: u8 = 10;
 
 /// How many cases of each function there are at least.
-const CASES: [usize; 9] = [4_400, 100, 1_500, 120, 1_400, 600, 1_400, 600, 1_100];
+const CASES: [usize; 11] = [
+    4_400, 100, 1_500, 120, 1_400, 600, 1_400, 600, 1_100, 1_700, 1_000,
+];
 
-/// Where the table starts in the input of a case for the writer, after the fields and the table's length.
-const TABLE: usize = 21;
+/// How many bytes the fields take in the input of a case for a writer.
+const FIELDS: usize = 17;
+const PACKET_FIELDS: usize = 18;
 
 fn put_count(out: &mut Vec<u8>, count: usize) {
     out.extend((count as u32).to_be_bytes());
@@ -129,16 +134,28 @@ fn fields_of(bytes: &[u8]) -> Fields {
     }
 }
 
-fn table(frame: &Frame, store: &mut [u8], out: &mut Vec<u8>) {
-    let (front, rest) = frame.input.split_at(TABLE);
-    let (table, pool) = rest.split_at(be_u32(&front[17..]) as usize);
-    match write(fields_of(front), table, pool, store) {
+/// The fields, the table and the pool of a case for a writer. The table's length stands before the table.
+fn parts(input: &[u8], fields: usize) -> (&[u8], &[u8], &[u8]) {
+    let (front, rest) = input.split_at(fields);
+    let (size, rest) = rest.split_at(4);
+    let (table, pool) = rest.split_at(be_u32(size) as usize);
+    (front, table, pool)
+}
+
+fn put_written(out: &mut Vec<u8>, answer: Result<usize, Refusal>) {
+    match answer {
         Ok(total) => {
             put_accepted(out);
             put_count(out, total);
         }
         Err(refusal) => put_refusal(out, refusal),
     }
+}
+
+fn table(frame: &Frame, store: &mut [u8], out: &mut Vec<u8>) {
+    let (fields, table, pool) = parts(&frame.input, FIELDS);
+    let answer = write(fields_of(fields), table, pool, store);
+    put_written(out, answer);
 }
 
 /// The code stands before the message. A fresh reader must find the same.
@@ -214,6 +231,37 @@ fn comparison(frame: &Frame, out: &mut Vec<u8>) {
     }
 }
 
+/// As many attributes are tried as there are records. A refusal has no authenticator, and zeros stand in its place.
+fn packet(frame: &Frame, store: &mut [u8], out: &mut Vec<u8>) {
+    match radius::decode(&frame.input, store) {
+        Ok(p) => {
+            put_accepted(out);
+            out.extend([p.header.code, p.header.identifier]);
+            put_counts(out, p.errors, p.records().len(), p.tried, p.length);
+            out.extend(p.header.authenticator);
+            check_rows(p.records());
+        }
+        Err(refusal) => {
+            put_refusal(out, refusal);
+            out.extend([0; 16]);
+        }
+    }
+}
+
+fn packet_header(bytes: &[u8]) -> radius::Header {
+    radius::Header {
+        code: bytes[0],
+        identifier: bytes[1],
+        authenticator: bytes[2..].try_into().expect("16 bytes"),
+    }
+}
+
+fn packet_table(frame: &Frame, store: &mut [u8], out: &mut Vec<u8>) {
+    let (fields, table, pool) = parts(&frame.input, PACKET_FIELDS);
+    let answer = radius::write(packet_header(fields), table, pool, store);
+    put_written(out, answer);
+}
+
 fn answer(frame: &Frame) -> Vec<u8> {
     let mut out = Vec::new();
     let mut store = frame.store();
@@ -226,6 +274,8 @@ fn answer(frame: &Frame) -> Vec<u8> {
         MESSAGE_BY => message_by(frame, &mut store, &mut out),
         AVP_BY => avp_by(frame, &mut store, &mut out),
         COMPARISON => comparison(frame, &mut out),
+        PACKET => packet(frame, &mut store, &mut out),
+        PACKET_TABLE => packet_table(frame, &mut store, &mut out),
         _ => table(frame, &mut store, &mut out),
     }
     out.extend(store);
