@@ -1,7 +1,8 @@
-// `stack BYTES`: decodes a message of 16 MiB with 1.4 million AVPs and one nested to the limit, in the sawp reading and by an edition,
-// and writes them back, on a stack of so many bytes. Pages that can't be touched lie below it, so a stack too small is a crash.
+// `stack BYTES`: decodes a message of 16 MiB with 1.4 million AVPs and one nested to the limit, in the sawp reading and by an edition, and
+// a RADIUS packet of 4,096 bytes, and writes them back, on a stack of so many bytes. Pages that can't be touched lie below it, so a stack too small is a crash.
 #define _DEFAULT_SOURCE
 #include "messages.h"
+#include "packets.h"
 #include "tandrekily.h"
 #include <inttypes.h>
 #include <stdio.h>
@@ -33,6 +34,13 @@ static void round_trip(void) {
                      length, out, sizeof out, written);
 }
 
+static void packet_trip(void) {
+    uint8_t authenticator[TANDREKILY_AUTHENTICATOR];
+    tandrekily_radius(input, length, store, sizeof store, authenticator, read);
+    tandrekily_radius_write((uint8_t)read[TANDREKILY_RADIUS_CODE], (uint8_t)read[TANDREKILY_RADIUS_IDENTIFIER], authenticator, store,
+                            read[TANDREKILY_RECORDS] * TANDREKILY_RECORD_SIZE, input, length, out, sizeof out, written);
+}
+
 // ---- on the process's own
 
 static uint8_t *stack_of(size_t bytes) {
@@ -41,24 +49,24 @@ static uint8_t *stack_of(size_t bytes) {
     return at + GUARD;
 }
 
-// Runs the round trip on the stack and answers how many of its bytes were touched; it grows downwards.
-static size_t touched(uint8_t *stack, size_t bytes) {
+// Runs a round trip on the stack and answers how many of its bytes were touched; it grows downwards.
+static size_t touched(void (*trip)(void), uint8_t *stack, size_t bytes) {
     ucontext_t here, there;
     memset(stack, UNTOUCHED, bytes);
     if (getcontext(&there) != 0) stop("no context");
     there.uc_stack.ss_sp = stack;
     there.uc_stack.ss_size = bytes;
     there.uc_link = &here;
-    makecontext(&there, round_trip, 0);
+    makecontext(&there, trip, 0);
     if (swapcontext(&here, &there) != 0) stop("no other context");
     size_t low = 0;
     while (low < bytes && stack[low] == UNTOUCHED) low++;
     return bytes - low;
 }
 
-static void check(const char *name, uint64_t records, uint64_t tried, size_t bytes, uint8_t *stack) {
+static void check(const char *name, void (*trip)(void), uint64_t records, uint64_t tried, size_t bytes, uint8_t *stack) {
     memset(out, UNTOUCHED, sizeof out);
-    size_t used = touched(stack, bytes);
+    size_t used = touched(trip, stack, bytes);
     if (read[TANDREKILY_NUMBER] != TANDREKILY_ACCEPTED || read[TANDREKILY_LENGTH] != length) stop("the message is refused");
     if (read[TANDREKILY_RECORDS] != records || read[TANDREKILY_TRIED] != tried) stop("other records, or other headers tried");
     if (written[TANDREKILY_NUMBER] != TANDREKILY_ACCEPTED || written[TANDREKILY_LENGTH] != length) stop("the table is refused");
@@ -70,9 +78,9 @@ static void check(const char *name, uint64_t records, uint64_t tried, size_t byt
 
 static void check_both(size_t bytes, uint8_t *stack) {
     length = message_nested(input, DEPTH);
-    check("nested 64 deep", DEPTH, DEPTH, bytes, stack);
+    check("nested 64 deep", round_trip, DEPTH, DEPTH, bytes, stack);
     length = message_extremal(input, MESSAGE_MOST);
-    check("16 MiB", (length - 20) / 12, (length - 20) / 6, bytes, stack);
+    check("16 MiB", round_trip, (length - 20) / 12, (length - 20) / 6, bytes, stack);
 }
 
 int main(int count, char **words) {
@@ -83,5 +91,8 @@ int main(int count, char **words) {
     edition = TANDREKILY_RFC_8506;
     puts("by RFC 8506:");
     check_both(bytes, stack);
+    puts("RADIUS:");
+    length = packet_small(input, PACKET_MOST);
+    check("attributes without data", packet_trip, (length - 20) / 2, (length - 20) / 2, bytes, stack);
     return 0;
 }
