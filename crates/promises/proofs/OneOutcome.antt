@@ -90,9 +90,8 @@ use Rattle.value.proofs.ReadAs.{one-value}
 use Rattle.count.proofs.AnswerOf as count-answers
 use Rattle.avps.proofs.AnswerOf as avps-answers
 use Rattle.diameter.proofs.AnswerOf as diameter-answers
-use Rattle.writer.proofs.AnswerOf as writer-answers
+use Rattle.record.proofs.AnswerOf as writer-answers
 use Rattle.radius.proofs.AnswerOf as packet-answers
-use Rattle.radius_writer.proofs.AnswerOf as packet-writer-answers
 
 -- One outcome, where a function lends nothing that it may change: two results that meet the contract are the same. The arguments
 -- stand with the lifetimes of the call, and with the parameters at exit.
@@ -407,7 +406,7 @@ parse-packet-one κs input store r r′ after after′ p q =
 
 write-packet-one : (κs : Lfts 3) (fields : packet.Fields) (table pool out : Slice) → Settled (WritePacket κs fields table pool out)
 write-packet-one κs fields table pool out r r′ after after′ p q =
-    let e = packet-writer-answers.answer-of-injective r r′ (p .0 ∙ sym (q .0)) in
+    let e = writer-answers.answer-of-injective r r′ (p .0 ∙ sym (q .0)) in
     let at-exit = p .1 in
     let at-exit′ = q .1 in
     (e, cc)

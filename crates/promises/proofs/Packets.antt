@@ -35,11 +35,11 @@ use Rattle.radius.specs.declared.Decoded.the-variants as decoder
 use Rattle.radius.specs.declared.Parsed.{Parsed}
 use Rattle.radius.specs.Answers.{packetAs, answerWith}
 use Rattle.radius_writer.specs.declared.Fields.{Fields}
-use Rattle.radius_writer.specs.declared.Written.{Written}
-use Rattle.radius_writer.specs.declared.Written.the-variants as writer
-use Rattle.radius_writer.specs.Answers as writers
+use Rattle.record.specs.declared.written.Written.{Written}
+use Rattle.record.specs.declared.written.Written.the-variants as writer
+use Rattle.record.specs.Written as writers
 use Rattle.radius_writer.specs.Answers.{headerAs}
-use Rattle.radius_writer.proofs.AnswerOf.{answer-of-injective}
+use Rattle.record.proofs.AnswerOf.{answer-of-injective}
 use Rattle.promises.proofs.OneOutcome.Calls.{Slice, ParsePacket, WritePacket}
 
 -- a packet that was accepted, with its authenticator

@@ -29,8 +29,9 @@ use Rattle.diameter.specs.declared.Message.{Message}
 use Rattle.diameter.specs.declared.Decoded.{Decoded}
 use Rattle.diameter.specs.declared.Decoded.the-variants as decoder
 use Rattle.writer.specs.declared.Fields.{Fields}
-use Rattle.writer.specs.declared.Written.the-variants as writer
-use Rattle.writer.specs.Answers.{fieldsAs, answerOf}
+use Rattle.record.specs.declared.written.Written.the-variants as writer
+use Rattle.record.specs.Written.{answerOf}
+use Rattle.writer.specs.Answers.{fieldsAs}
 use Rattle.promises.proofs.OneOutcome.Calls.{Slice, Write}
 use Rattle.promises.proofs.Ways.{Way, dictionaryOf, Known, Decode, decodes}
 use Rattle.promises.proofs.Acceptance.{AcceptedAs, accepted-as}

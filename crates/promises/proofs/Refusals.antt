@@ -20,15 +20,13 @@ use Rattle.avps.specs.Answers as avps-answers
 use Rattle.diameter.specs.declared.Decoded.the-variants as diameter
 use Rattle.diameter.specs.Answers as diameter-answers
 use Rattle.writer.specs.declared.Fields.{Fields}
-use Rattle.writer.specs.declared.Written.the-variants as writer
-use Rattle.writer.specs.Answers as writer-answers
+use Rattle.record.specs.declared.written.Written.the-variants as writer
+use Rattle.record.specs.Written as writer-answers
 use Rattle.unit_value.specs.declared.Ordering.{Ordering}
 use Rattle.rfc2865.specs.Packet.{Packet}
 use Rattle.radius.specs.declared.Decoded.the-variants as radius
 use Rattle.radius.specs.Answers as radius-answers
 use Rattle.radius_writer.specs.declared.Fields as packet
-use Rattle.radius_writer.specs.declared.Written.the-variants as packet-writer
-use Rattle.radius_writer.specs.Answers as packet-writer-answers
 use Rattle.tandrekily.specs.Packets as packets
 use Rattle.tandrekily.specs.Results.{messageResult, avpResult, writtenResult, numberShown, orderShown}
 use Rattle.promises.proofs.OneOutcome.Calls.{Slice, Parse, ParseAvp, ParseBy, ParseAvpBy, Write, TandrekilyMessage, TandrekilyAvp, TandrekilyMessageBy, TandrekilyAvpBy, TandrekilyWrite, TandrekilyCompare, ParsePacket, WritePacket, TandrekilyRadius, TandrekilyRadiusWrite}
@@ -66,8 +64,8 @@ unfolding radius-answers.answerWith stored
 parse-packet-refusal-changes-nothing κs input store why authenticator store′ p = p .1 .1
 
 pub write-packet-refusal-changes-nothing : (κs : Lfts 3) (fields : packet.Fields) (table pool out : Slice) (why : Refusal) (out′ : Slice)
-    → WritePacket κs fields table pool out (packet-writer.Refused why) out′ → now out′ ≡ now out
-unfolding packet-writer-answers.answerOf output
+    → WritePacket κs fields table pool out (writer.Refused why) out′ → now out′ ≡ now out
+unfolding writer-answers.answerOf output
 write-packet-refusal-changes-nothing κs fields table pool out why out′ p = p .1
 
 -- ---- in the library: the number, the first of the result, is not 0

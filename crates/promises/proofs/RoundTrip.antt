@@ -27,11 +27,11 @@ use Rattle.diameter.specs.declared.Message.{Message}
 use Rattle.diameter.specs.declared.Decoded.the-variants as decoder
 use Rattle.diameter.specs.Answers.{answerOf, messageAs}
 use Rattle.writer.specs.declared.Fields.{Fields}
-use Rattle.writer.specs.declared.Written.{Written}
-use Rattle.writer.specs.declared.Written.the-variants as writer
-use Rattle.writer.specs.Answers as writers
+use Rattle.record.specs.declared.written.Written.{Written}
+use Rattle.record.specs.declared.written.Written.the-variants as writer
+use Rattle.record.specs.Written as writers
 use Rattle.writer.specs.Answers.{fieldsAs}
-use Rattle.writer.proofs.AnswerOf.{answer-of-injective}
+use Rattle.record.proofs.AnswerOf.{answer-of-injective}
 use Rattle.promises.proofs.OneOutcome.Calls.{Slice, Write}
 use Rattle.promises.proofs.Ways.{Way, dictionaryOf, Decode, accepts, lawful}
 

@@ -1,4 +1,3 @@
-pub mod AnswerOf
 mod Keeping
 mod Lengths
 mod Parts

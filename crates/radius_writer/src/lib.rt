@@ -5,27 +5,23 @@ mod rules;
 mod size;
 
 use record::Record;
+use record::written::Written;
 use refusal::Refusal;
 use size::Measured;
 ghost use mathlib.Core.Path.{_≡_};
 ghost use Prim.Native.Nat.{_≤_};
 ghost use lib.ListN.{length};
+ghost use Rattle.record.specs.Written.{answerOf};
 ghost use Rattle.octets.specs.Octets.{over};
 ghost use Rattle.rfc2865.specs.Packet.{headerSize};
 ghost use Rattle.rfc2865.specs.Writer.{written, headerBytes};
-ghost use Rattle.radius_writer.specs.Answers.{headerAs, answerOf, outputAfter};
+ghost use Rattle.radius_writer.specs.Answers.{headerAs, outputAfter};
 
 /// The header's fields of a packet to be written; its length is computed.
 pub struct Fields {
     pub code: u8,
     pub identifier: u8,
     pub authenticator: [u8; Fields::AUTHENTICATOR],
-}
-
-/// What writing a packet answers: its length, or the refusal.
-pub enum Written {
-    Accepted(usize),
-    Refused(Refusal),
 }
 
 impl Fields {

@@ -14,3 +14,4 @@ pub mod Chosen
 pub mod Breaks
 pub mod Back
 pub mod Steps
+pub mod AnswerOf

@@ -9,3 +9,4 @@ pub mod Counts
 pub mod Refusals
 pub mod Store
 pub mod Broken
+pub mod Written

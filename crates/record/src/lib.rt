@@ -2,6 +2,7 @@
 // This crate knows the layout, and nothing of how a record comes about.
 pub mod kinds;
 pub mod outline;
+pub mod written;
 
 ghost use mathlib.Core.Path.{_≡_};
 ghost use mathlib.Core.List.{_++_, reverse};

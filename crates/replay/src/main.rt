@@ -11,11 +11,11 @@ use reader::Found;
 use reader::Step;
 use record::Record;
 use record::outline::Outline;
+use record::written::Written;
 use unit_value::Compared;
 use unit_value::Ordering;
 use unit_value::UnitValue;
 use writer::Fields;
-use writer::Written;
 ghost use Prim.Native.Nat.{_≤_};
 ghost use lib.ListN.{length};
 

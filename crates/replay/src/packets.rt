@@ -1,7 +1,6 @@
 // Packets of RADIUS: one that is read, and one that is written.
 use radius::Decoded;
 use radius_writer::Fields;
-use radius_writer::Written;
 ghost use Prim.Native.Nat.{_≤_};
 ghost use lib.ListN.{length};
 
@@ -56,16 +55,6 @@ fn fields_of(f: &[u8]) -> Fields
     }
 }
 
-fn write_written(w: Written) {
-    match w {
-        Written::Accepted(total) => {
-            crate::write_refusal(0, 0);
-            crate::write_count(total);
-        }
-        Written::Refused(why) => crate::write_refusal(why.number(), why.amount()),
-    }
-}
-
 pub(super) fn table(input: &[u8], out: &mut [u8]) {
     if input.len() < TABLE {
         return;
@@ -75,5 +64,10 @@ pub(super) fn table(input: &[u8], out: &mut [u8]) {
         return;
     }
     let end = TABLE + size;
-    write_written(radius_writer::write(fields_of(input), &input[TABLE..end], &input[end..], out));
+    crate::write_written(radius_writer::write(
+        fields_of(input),
+        &input[TABLE..end],
+        &input[end..],
+        out,
+    ));
 }

@@ -10,13 +10,13 @@ use header::Header;
 use header::Parsed;
 use reader::Found;
 use record::outline::Outline;
+use record::written::Written;
 use refusal::Refusal;
 use rfc3629::Utf8;
 use unit_value::Compared;
 use unit_value::Ordering;
 use unit_value::UnitValue;
 use writer::Fields;
-use writer::Written;
 ghost use mathlib.Core.Path.{_≡_};
 ghost use Rattle.rfc3629.specs.Utf8.{wellFormed, validUpTo};
 ghost use Rattle.rfc6733.specs.Decoder.{headerAlone};
@@ -29,7 +29,7 @@ ghost use Rattle.avps.specs.Answers.{countsAs};
 ghost use Rattle.diameter.specs.Answers.{answerOf};
 ghost use Rattle.reader.specs.Reading as reader;
 ghost use Rattle.reader.specs.Reading.{stepAt};
-ghost use Rattle.writer.specs.Answers as writer;
+ghost use Rattle.record.specs.Written as written;
 ghost use Rattle.tandrekily.specs.Results.{readingOf, result, refusal, messageResult, avpResult, writtenResult, outlineResult, foundResult, stepResult, messageAsked, avpAsked, messageAskedBy, avpAskedBy, writeResult, messageStore, avpStore, messageStoreBy, avpStoreBy, writeOutput, signOf, numberShown, orderShown, comparedGiven};
 
 /// How many numbers a result has. include/tandrekily.h names them.
@@ -142,7 +142,7 @@ fn of_avp(d: Filled) -> [u64; RESULT]
 }
 
 fn of_written(w: Written) -> [u64; RESULT]
-    ensures { λ r. ⌜ r ≡ writtenResult (writer.answerOf w) ⌝ }
+    ensures { λ r. ⌜ r ≡ writtenResult (written.answerOf w) ⌝ }
 {
     match w {
         Written::Accepted(total) => {

@@ -2,10 +2,10 @@
 use radius::Decoded;
 use radius::Packet;
 use radius_writer::Fields;
-use radius_writer::Written;
+use record::written::Written;
 use refusal::Refusal;
 ghost use mathlib.Core.Path.{_≡_};
-ghost use Rattle.radius_writer.specs.Answers.{answerOf};
+ghost use Rattle.record.specs.Written.{answerOf};
 ghost use Rattle.tandrekily.specs.Packets.{result, countsOf, refusal, writtenResult, packetResult, packetAsked, packetStore, authenticatorAfter, writeResult, writeOutput};
 
 /// How many numbers a packet's result has. include/tandrekily.h names them.

@@ -1,4 +1,3 @@
-pub mod AnswerOf
 pub mod Parts
 pub mod Runs
 pub mod Sizes

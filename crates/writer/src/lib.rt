@@ -5,14 +5,16 @@ mod size;
 
 use header::Header;
 use record::Record;
+use record::written::Written;
 use refusal::Refusal;
 use size::Measured;
 ghost use mathlib.Core.Path.{_≡_};
 ghost use Prim.Native.Nat.{_≤_};
 ghost use lib.ListN.{length};
+ghost use Rattle.record.specs.Written.{answerOf};
 ghost use Rattle.octets.specs.Octets.{pack, over};
 ghost use Rattle.rfc6733.specs.Writer.{written, headerFields};
-ghost use Rattle.writer.specs.Answers.{fieldsAs, answerOf, outputAfter};
+ghost use Rattle.writer.specs.Answers.{fieldsAs, outputAfter};
 
 /// The header fields of a message to be written; the version is 1 and the length is computed.
 pub struct Fields {
@@ -21,12 +23,6 @@ pub struct Fields {
     pub app_id: u32,
     pub hop_id: u32,
     pub end_id: u32,
-}
-
-/// What writing a message answers: its length, or the refusal.
-pub enum Written {
-    Accepted(usize),
-    Refused(Refusal),
 }
 
 impl Fields {

@@ -29,12 +29,11 @@ use Rattle.lines.proofs.dump.Reads as dump
 use Rattle.reader.specs.declared.Found.{Found}
 use Rattle.reader.proofs.find.Reads as find
 use Rattle.writer.specs.declared.Fields.{Fields}
-use Rattle.writer.specs.declared.Written.{Written}
+use Rattle.record.specs.declared.written.Written.{Written}
 use Rattle.writer.proofs.write.Reads as write
 use Rattle.radius.specs.declared.Parsed.{Parsed}
 use Rattle.radius.proofs.parse.Reads as parse-packet
 use Rattle.radius_writer.specs.declared.Fields as packet-fields
-use Rattle.radius_writer.specs.declared.Written as packet-written
 use Rattle.radius_writer.proofs.write.Reads as write-packet
 use Rattle.tandrekily.proofs.packets.tandrekily_radius.Reads as tandrekily-radius
 use Rattle.tandrekily.proofs.packets.tandrekily_radius_write.Reads as tandrekily-radius-write
@@ -150,7 +149,7 @@ TandrekilyUnixSeconds time r = tandrekily-unix-seconds.Post tt (time, tt) r (tim
 abbrev pub ParsePacket : Lfts 2 → Slice → Slice → Parsed → Slice → Type 0
 ParsePacket κs input store r store′ = parse-packet.Post κs (input, (store, tt)) r (input, (store′, tt))
 
-abbrev pub WritePacket : Lfts 3 → packet-fields.Fields → Slice → Slice → Slice → packet-written.Written → Slice → Type 0
+abbrev pub WritePacket : Lfts 3 → packet-fields.Fields → Slice → Slice → Slice → Written → Slice → Type 0
 WritePacket κs fields table pool out r out′ =
     write-packet.Post κs (fields, (table, (pool, (out, tt)))) r (fields, (table, (pool, (out′, tt))))
 

@@ -13,7 +13,8 @@ use Rattle.record.specs.Table.{tableOf, Every}
 use Rattle.record.specs.Store.{output}
 use Rattle.rfc2865.specs.Packet.{Header, authenticatorSize, headerSize, mostPacket}
 use Rattle.rfc2865.specs.Writer.{keeps}
-use Rattle.radius_writer.specs.Answers.{headerAs, answerOf}
+use Rattle.radius_writer.specs.Answers.{headerAs}
+use Rattle.record.specs.Written.{answerOf}
 use Rattle.radius_writer.proofs.Lengths.{sixteen}
 use Rattle.radius_writer.proofs.Sizes.{Known, was-over, was-size}
 use Rattle.radius_writer.proofs.Writing.{all-keep, bad-record, cut-off, too-long, no-room, fits, packet-put}

@@ -2,7 +2,7 @@
 use borrow.Author.Needs.{needs}
 use Rattle.header.specs.Parsed.{headerAs}
 use Rattle.avps.specs.Answers.{countsAs}
-use Rattle.writer.specs.Answers.{answerOf}
+use Rattle.record.specs.Written.{answerOf}
 use Rattle.tandrekily.specs.Results.{writtenResult}
 use Rattle.tandrekily.proofs.of_written.Statement.{statement}
 use Rattle.tandrekily.proofs.of_written.Tie as tie

@@ -13,7 +13,8 @@ use Rattle.record.specs.Table.{tableOf}
 use Rattle.record.specs.Store.{output}
 use Rattle.round_trip.specs.Rules.{Valid}
 use Rattle.round_trip.specs.Tables.{run}
-use Rattle.writer.specs.Answers.{fieldsAs, answerOf}
+use Rattle.writer.specs.Answers.{fieldsAs}
+use Rattle.record.specs.Written.{answerOf}
 use Rattle.writer.specs.Emitting.{Done}
 use Rattle.writer.proofs.Sizes.{Known, was-over, was-size}
 use Rattle.writer.proofs.Writing.{total, all-valid, bad-header, bad-record, cut-off, too-long, no-room, fits, message-put}

@@ -1,6 +1,6 @@
 -- `of_written` meets its contract: each arm lays out the answer of its case.
 use borrow.Author.Needs.{needs}
-use Rattle.radius_writer.specs.Answers.{answerOf}
+use Rattle.record.specs.Written.{answerOf}
 use Rattle.tandrekily.specs.Packets.{writtenResult}
 use Rattle.tandrekily.proofs.packets.of_written.Statement.{statement}
 use Rattle.tandrekily.proofs.packets.of_written.Tie as tie

@@ -3,9 +3,9 @@
 use Prim.Native.Nat.{ℕ}
 use mathlib.Core.Path.{_≡_, refl, sym, ap, _∙_}
 use Rattle.refusal.specs.Answer.{Answer, accepted, refused}
-use Rattle.writer.specs.declared.Written.{Written}
-use Rattle.writer.specs.declared.Written.the-variants.{Accepted, Refused}
-use Rattle.writer.specs.Answers.{answerOf}
+use Rattle.record.specs.declared.written.Written.{Written}
+use Rattle.record.specs.declared.written.Written.the-variants.{Accepted, Refused}
+use Rattle.record.specs.Written.{answerOf}
 
 abbrev outcome-back : Answer ℕ → Written
 outcome-back (accepted total) = Accepted total
