@@ -188,6 +188,15 @@ def radius(r):
     return "packet-table", room, (wire[:2] + wire[4:20] + len(table).to_bytes(4, "big") + table + pool).hex()
 
 
+def sizes():
+    """Each type of RADIUS with data of each size, in a packet of its own: letters, and letters with a last byte that is no text."""
+    for code in range(256):
+        for size in range(254):
+            for body in (b"a" * size, b"a" * (size - 1) + b"\xff"[:size]):
+                wire = b"\x04\x00" + (22 + size).to_bytes(2, "big") + bytes(16) + bytes([code, 2 + size]) + body
+                yield "packet", 1, wire.hex()
+
+
 MAKERS = {"read": read, "search": search, "edition": read_by, "compare": comparison, "radius": radius}
 
 
