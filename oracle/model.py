@@ -65,7 +65,7 @@ KINDS_8506 = {
     10: [660, 661, 662, 663, 664, 667, 668],
     13: [666],
 }
-# RFC 2865, sections 5.1 to 5.44, and RFC 2866, sections 5.1 to 5.12. CHAP-Password (3) and Vendor-Specific (26) have formats of their own.
+# RFC 2865, sections 5.1 to 5.43, and RFC 2866, sections 5.1 to 5.12. CHAP-Password (3) and Vendor-Specific (26) have formats of their own.
 KINDS_RADIUS = {
     1: [1, 2, 3, 19, 20, 24, 25, 26, 30, 31, 32, 33, 34, 35, 36, 39, 50, 60, 63],
     4: [5, 6, 7, 10, 12, 13, 15, 16, 23, 27, 28, 29, 37, 38, 40, 41, 42, 43, 45, 46, 47, 48, 49, 51, 61, 62],

@@ -21,7 +21,7 @@ use Rattle.attribute.specs.declared.Dictionary as declared
 use Rattle.attribute.specs.declared.Reading.{Reading}
 use Rattle.attribute.specs.declared.Reading.the-variants.{Sawp, Rfc}
 use Rattle.attribute.specs.Kinds.{Codes, kindsByCode, kindAmong}
-use Rattle.attribute.proofs.Tables.{same-by-list}
+use Rattle.attribute.proofs.Agreement.{same-by-list}
 use Rattle.record.proofs.Rows.{codesIn, greatest, entry-of, greatestKind, kind-within}
 
 -- ---- off the codes of a table

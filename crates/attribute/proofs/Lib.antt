@@ -1,3 +1,3 @@
 pub mod Names
-pub mod Tables
+pub mod Agreement
 pub mod Dictionaries

@@ -8,7 +8,6 @@ use native.Mathlib.Omega.{arith}
 use lib.ListN.{length, take, drop, length-append, length-drop}
 use lib.Seq.{length-take-le}
 use lib.Dec.{eqb}
-use borrow.Author.Tests.{le-leb}
 use borrow.Rule.Slice.PartMut.{putMid}
 use Rattle.octets.specs.Octets.{be, over}
 use Rattle.octets.specs.Run.{tree}
@@ -24,6 +23,7 @@ use Rattle.rfc6733.specs.Entered.{valueIn, entered}
 use Rattle.rfc6733.proofs.Complete.{sizes, complete-whole}
 use Rattle.rfc6733.proofs.Items.{payload-length}
 use Rattle.record.proofs.Layouts.{record-length}
+use Rattle.record.proofs.Room.{put-with-room}
 use Rattle.rfc6733.proofs.Alone.{exact-tree, Made, made}
 use Rattle.avp.specs.declared.AVP.{AVP}
 use Rattle.front.specs.Front.{avpOf}
@@ -96,10 +96,6 @@ ownRecord a from place depth pads errors m =
       pads = pads;
       value = m .number;
     }
-
-put-with-room : (r : Record) (store : List ℕ) → recordSize ≤ length store → put r store ≡ over (recordBytes r) store
-unfolding put
-put-with-room r store h = rw (le-leb _ _ h)
 
 -- a record put at the front of a store whose part after it was lent, and came back with other bytes at its front
 put-before : (r : Record) (bytes store back : List ℕ) → recordSize ≤ length store

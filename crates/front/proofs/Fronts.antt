@@ -6,14 +6,15 @@ use mathlib.Core.Bool.{Bool, true, false, cond}
 use mathlib.Core.List.{List}
 use native.Mathlib.Omega.{arith}
 use lib.ListN.{length, take, drop, length-drop}
-use lib.Seq.{drop-drop, length-take-le}
+use lib.Seq.{length-take-le}
 use Rattle.octets.specs.Run.{item, after}
 use Rattle.octets.proofs.Lists.{rest}
+use Rattle.octets.proofs.Turns.{turn-next, turn-own}
 use Rattle.rfc6733.specs.Avp.{code, flags, avpLength, headSize, vendor, avpSize, avpRefusals, complete}
 use Rattle.refusal.proofs.Answers.{passed}
 use Rattle.rfc6733.proofs.Complete as rfc
 use Rattle.rfc6733.proofs.Complete.{head, sizes, complete-whole}
-use Rattle.rfc6733.proofs.Items.{avpsBy}
+use Rattle.rfc6733.proofs.Items.{avpsBy, sound}
 use Rattle.avp.specs.declared.AVP.{AVP}
 use Rattle.front.specs.declared.ParsedAvp.the-variants as front
 use Rattle.front.specs.declared.First.{First}
@@ -67,8 +68,6 @@ pub record Turn (s : List ℕ) (at : ℕ) (a : AVP) : Type 0 where
   pub some : 8 ≤ a .size
   pub header : headSize (a .flags) ≤ a .length
   pub padded : a .length ≤ a .size
-  -- what follows the AVP, and its own bytes
-  pub next : drop (at + a .size) s ≡ drop (a .size) (drop at s)
   pub own-length : length (take (a .size) (drop at s)) ≡ a .size
 
 pub turn-at : (s : List ℕ) (at : ℕ) (a : AVP) → complete (drop at s) ≡ true → a ≡ avpOf (drop at s) → Turn s at a
@@ -88,7 +87,6 @@ turn-at s at a c is =
       some = omega arith;
       header = rw (f .flags-is) (omega arith);
       padded = omega arith;
-      next = sym (drop-drop (a .size) at s);
       own-length = length-take-le (a .size) left (omega arith);
     }
 
@@ -98,12 +96,10 @@ turn s at a h e = let p = was-whole (drop at s) a (e ∙ ap firstOf (rest s at (
 -- in the words of a run, whichever AVPs are entered
 module _ (nested : List ℕ → Bool) (s : List ℕ) (at : ℕ) (a : AVP) (t : Turn s at a) where
   pub next-is : drop (at + a .size) s ≡ after (avpsBy nested) (drop at s)
-  unfolding after
-  next-is = cc (t .next, t .fields .size-is)
+  next-is = turn-next (avpsBy nested) (sound nested) s at (a .size) (t .complete-here) (t .fields .size-is)
 
   pub own-is : take (a .size) (drop at s) ≡ item (avpsBy nested) (drop at s)
-  unfolding item
-  own-is = rw (t .fields .size-is)
+  own-is = turn-own (avpsBy nested) (sound nested) s at (a .size) (t .complete-here) (t .fields .size-is)
 
 pub stuck : (s : List ℕ) (at : ℕ) → at < length s → Broken ≡ firstOf (take (length s - at) (drop at s)) → complete (drop at s) ≡ false
 stuck s at h e = was-broken (drop at s) (e ∙ ap firstOf (rest s at (omega arith)))

@@ -4,3 +4,4 @@ pub mod Numbers
 pub mod Runs
 pub mod Availability
 pub mod Held
+pub mod Turns

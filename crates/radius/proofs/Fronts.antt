@@ -1,15 +1,15 @@
 -- What an answer of `first_attribute` says of the bytes that it was asked of, for loops over a run: `Whole` is answered exactly where an
 -- attribute is complete, and then what is left after it is the run from its length on.
 use Prim.Native.Nat.{ℕ, _+_, _-_, _≤_, _<_}
-use mathlib.Core.Path.{_≡_, refl, sym, ap, _∙_}
+use mathlib.Core.Path.{_≡_, refl, ap, _∙_}
 use mathlib.Core.Bool.{Bool, true, false, cond}
 use mathlib.Core.List.{List}
 use mathlib.Core.Logic.{inl, inr}
 use native.Mathlib.Omega.{arith}
-use lib.ListN.{length, take, drop, length-drop}
-use lib.Seq.{drop-drop}
+use lib.ListN.{length, take, drop}
 use Rattle.octets.specs.Run.{item, after}
 use Rattle.octets.proofs.Lists.{rest}
+use Rattle.octets.proofs.Turns.{turn-fits, turn-next, turn-own}
 use Rattle.refusal.proofs.Tests.{decide}
 use Rattle.rfc2865.specs.Attribute.{attributeLength, complete, attributes}
 use Rattle.rfc2865.proofs.Items as rfc
@@ -55,21 +55,19 @@ pub record Turn (s : List ℕ) (at n : ℕ) : Type 0 where
   pub own : take (at + n - at) (drop at s) ≡ item attributes (drop at s)
 
 pub turn : (s : List ℕ) (at n : ℕ) → at < length s → Whole n ≡ firstOf (take (length s - at) (drop at s)) → Turn s at n
-unfolding item after
 turn s at n h e =
     let left = drop at s in
     let p : Was (Whole n) left = rw (← (e ∙ ap firstOf (rest s at (omega arith)))) at (was left) in
     let w = complete-whole left (p .0) in
-    let l = length-drop at s in
-    let size : at + n - at ≡ attributeLength left = omega (arith, p .1) in
+    let back : at + n - at ≡ n = omega arith in
     record {
       complete-here = p .0;
       whole = w;
       length-is = p .1;
-      fits = omega (arith, p .1, w .there);
+      fits = turn-fits attributes rfc.sound s at n (p .0) (p .1);
       some = omega (arith, p .1, w .least);
-      next = sym (drop-drop n at s) ∙ ap (λ (k : ℕ). drop k left) (p .1);
-      own = ap (λ (k : ℕ). take k left) size;
+      next = turn-next attributes rfc.sound s at n (p .0) (p .1);
+      own = ap (λ (k : ℕ). take k left) back ∙ turn-own attributes rfc.sound s at n (p .0) (p .1);
     }
 
 pub stuck : (s : List ℕ) (at : ℕ) → at < length s → Broken ≡ firstOf (take (length s - at) (drop at s)) → complete (drop at s) ≡ false

@@ -4,12 +4,12 @@ use Prim.Native.Nat.{ℕ, _+_, _-_, _≤_}
 use mathlib.Core.Path.{_≡_, ap, _∙_}
 use mathlib.Core.List.{List}
 use lib.ListN.{length, getD, take, drop}
-use borrow.Author.Tests.{le-leb}
 use Rattle.octets.specs.Octets.{over}
 use Rattle.octets.proofs.Numbers.{one-byte}
 use Rattle.record.specs.Record.{Record, recordSize, recordBytes}
 use Rattle.record.specs.Store.{put}
 use Rattle.record.specs.Value as values
+use Rattle.record.proofs.Room.{put-with-room}
 use Rattle.rfc2865.specs.Attribute.{payload}
 use Rattle.rfc2865.specs.Types.{kindOf}
 use Rattle.rfc2865.specs.Records.{dataAs, valueOf, recordOf}
@@ -33,10 +33,6 @@ ownRecord code length place v =
       pads = 0;
       value = v .number;
     }
-
-put-with-room : (r : Record) (store : List ℕ) → recordSize ≤ length store → put r store ≡ over (recordBytes r) store
-unfolding put
-put-with-room r store h = rw (le-leb _ _ h)
 
 module _ {place : ℕ} {s : List ℕ} (o : Own place s) (v : Value) where
   -- the data as `&s[2..]` lends them have the value of the attribute

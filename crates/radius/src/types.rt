@@ -1,4 +1,4 @@
-// The kinds of the types of attributes (RFC 2865, sections 5.1 to 5.44; RFC 2866, sections 5.1 to 5.12), as a table by number.
+// The kinds of the types of attributes (RFC 2865, sections 5.1 to 5.43; RFC 2866, sections 5.1 to 5.12), as a table by number.
 use record::kinds::ADDRESS;
 use record::kinds::OCTET_STRING;
 use record::kinds::UNHANDLED;

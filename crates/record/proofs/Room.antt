@@ -21,3 +21,8 @@ module _ (r : Record) (s : List ℕ) where
       → (true ≡ leb recordSize (length s)) × (sets (sets s 0 (pack (take 4 (layout r)))) 12 (pack (drop 4 (layout r))) ≡ put r s)
   unfolding octets over recordBytes put
   with-room room = let yes = le-leb _ _ room in (sym yes, rw yes (sets-eq (recordBytes r) s 0 room))
+
+-- what is put where there is room
+pub put-with-room : (r : Record) (s : List ℕ) → recordSize ≤ length s → put r s ≡ over (recordBytes r) s
+unfolding put
+put-with-room r s room = rw (le-leb _ _ room)

@@ -1,5 +1,4 @@
--- A store that is lent for records: how many it has room for, and what it holds after an answer (docs/FORMAT.md, 6.3). And an output that
--- is lent for bytes (8.1).
+-- What lent memory holds after an answer: a store for records (docs/FORMAT.md, 6.3), and how many it has room for; an output for bytes (8.2).
 use Prim.Native.Nat.{ℕ, _-_, _/_}
 use mathlib.Core.Bool.{cond}
 use mathlib.Core.List.{List, _++_}

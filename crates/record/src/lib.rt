@@ -1,4 +1,4 @@
-// The record of an AVP and its 32 bytes (docs/FORMAT.md, 6): written to a store and read from a table.
+// The record of an AVP, or of an attribute of RADIUS, and its 32 bytes (docs/FORMAT.md, 6): written to a store and read from a table.
 // This crate knows the layout, and nothing of how a record comes about.
 pub mod kinds;
 pub mod outline;

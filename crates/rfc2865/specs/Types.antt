@@ -1,4 +1,4 @@
--- The types of attributes: those of RFC 2865, sections 5.1 to 5.44, and of RFC 2866, sections 5.1 to 5.12, with the format that their
+-- The types of attributes: those of RFC 2865, sections 5.1 to 5.43, and of RFC 2866, sections 5.1 to 5.12, with the format that their
 -- diagrams draw.
 use Prim.Native.Nat.{ℕ}
 use mathlib.Core.List.{List, [], _∷_}

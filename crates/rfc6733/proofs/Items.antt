@@ -7,7 +7,9 @@ use mathlib.Core.Logic.{inl, inr}
 use mathlib.Core.List.{List}
 use native.Mathlib.Omega.{arith}
 use lib.ListN.{length, take, drop, length-take, length-drop}
+use Rattle.octets.specs.Octets.{Bytes}
 use Rattle.octets.specs.Run.{Format, item}
+use Rattle.octets.proofs.Held.{bytes-take, bytes-drop}
 use Rattle.octets.proofs.Lists.{part-of-front}
 use Rattle.octets.proofs.Numbers.{be-take}
 use Rattle.octets.proofs.Runs.{Sound}
@@ -57,6 +59,10 @@ unfolding payload
 payload-length s w =
     let d = length-drop (headSize (flags s)) s in
     length-take (dataSize s) (drop (headSize (flags s)) s) ∙ omega (arith, sizes s)
+
+pub bytes-payload : (a : List ℕ) → Bytes a → Bytes (payload a)
+unfolding payload
+bytes-payload a b = bytes-take (dataSize a) (drop (headSize (flags a)) a) (bytes-drop (headSize (flags a)) a b)
 
 -- ---- an item's own bytes
 

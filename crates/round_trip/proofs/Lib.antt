@@ -3,7 +3,6 @@ pub mod Shape
 pub mod Kept
 pub mod Lengths
 pub mod Turns
-pub mod Packed
 pub mod Pads
 pub mod Again
 pub mod LeafKinds

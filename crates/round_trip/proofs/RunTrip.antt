@@ -19,10 +19,9 @@ use Rattle.record.specs.Forest.{none, flat}
 use Rattle.record.specs.Table.{bare, AllFit}
 use Rattle.rfc6733.proofs.Alone.{item-exact}
 use Rattle.rfc6733.proofs.Complete.{exact-sizes}
-use Rattle.rfc6733.proofs.Items.{sound, payload-length}
+use Rattle.rfc6733.proofs.Items.{sound, payload-length, bytes-payload}
 use Rattle.refusal.proofs.Tests.{decide}
 use Rattle.round_trip.specs.Trip.{Ungrouped, Lawful, forestOf}
-use Rattle.round_trip.proofs.Packed.{bytes-payload}
 use Rattle.octets.proofs.Held.{bytes-item, bytes-after, Holds, holds-front, holds-behind}
 use Rattle.round_trip.proofs.LeafKinds.{value-leaf}
 use Rattle.record.proofs.Tables.{fit-bare}

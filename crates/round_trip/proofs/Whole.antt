@@ -22,11 +22,10 @@ use Rattle.flags.proofs.Joins.{join-small}
 use Rattle.rfc6733.proofs.Accepted.{when-alone}
 use Rattle.rfc6733.proofs.Alone.{item-exact, exact-tiles}
 use Rattle.rfc6733.proofs.Complete.{exact-sizes}
-use Rattle.rfc6733.proofs.Items.{payload-length}
+use Rattle.rfc6733.proofs.Items.{payload-length, bytes-payload}
 use Rattle.rfc6733.proofs.RunErrors.{Small, own-small, value-small, errors-small, bare-small}
 use Rattle.refusal.proofs.Tests.{decide}
 use Rattle.round_trip.specs.Trip.{Lawful}
-use Rattle.round_trip.proofs.Packed.{bytes-payload}
 use Rattle.octets.proofs.Held.{bytes-item, Holds, holds-here}
 use Rattle.round_trip.proofs.LeafKinds.{sawp-lawful}
 use Rattle.round_trip.proofs.RunTrip.{records-fit-as, trips}
