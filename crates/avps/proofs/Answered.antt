@@ -10,11 +10,13 @@ use borrow.Author.Tests.{lt-ltb, le-ltb}
 use Rattle.octets.specs.Run.{Tree, tree}
 use Rattle.refusal.specs.Answer.{answer}
 use Rattle.rfc6733.specs.Dictionary.{Dictionary}
+use Rattle.rfc6733.specs.Records as rfc
 use Rattle.rfc6733.specs.Records.{avps, errors, recordCount}
 use Rattle.rfc6733.specs.Decoder.{allowed, limitRefusals, depthRefusals, fitRefusals, runRecords, runCounts, runRefusals}
 use Rattle.record.specs.Refusals.{tileRefusals, roomRefusals}
 use Rattle.record.specs.Store.{stored}
 use Rattle.refusal.proofs.Answers.{answer-first}
+use Rattle.record.proofs.Parents.{parented-count}
 use Rattle.rfc6733.proofs.Decoded.{limit-good, more-records, fits}
 use Rattle.rfc6733.proofs.RunRecords.{records-count}
 use Rattle.count.specs.declared.Counted.the-variants as count
@@ -58,7 +60,7 @@ module _ (D : Dictionary) (limit room place : ℕ) (s : List ℕ) where
 
       records-are : length (runRecords D place s) ≡ recordCount run
       unfolding runRecords
-      records-are = records-count D place 1 run
+      records-are = parented-count (rfc.records D place 1 run) ∙ records-count D place 1 run
 
       pub no-records : room < records → answerOf (Refused (NoRecords records)) ≡ runAnswer D limit room place s
       unfolding answerOf

@@ -20,7 +20,7 @@ use Rattle.rfc6733.proofs.KindsRead.{Kind}
 use Rattle.value.specs.declared.Read.{Read}
 use Rattle.value.specs.Values.{kindOf, numberOf, readAs, Shows, newValue}
 use Rattle.avps.specs.declared.fill.Ran.{Ran}
-use Rattle.avps.specs.Fill.{Recorded, Members}
+use Rattle.avps.specs.Fill.{groupBefore, Recorded, Members}
 use Rattle.avps.proofs.OtherKinds.{Other, other-read}
 
 -- the data s are a group that tiles, and are entered
@@ -58,8 +58,8 @@ module _ {D : Dictionary} {code vendor : ℕ} {s : List ℕ} {r : Read} (shown :
       by true false e u = let t = tiles-any D s ∙ u in record { entered-is = rw (e, u); value-is = rw (e, u, t) }
       by false t e u = record { entered-is = rw e; value-is = rw e }
 
-  pub no-members : {place depth k n : ℕ} {store : List ℕ} → (kindOf (r .value) ≡ grouped → ⊥) → k ≡ kindOf (r .value) → n ≡ numberOf (r .value)
-      → Members D code vendor s place depth (record { kind = k; number = n; errors = r .errors; records = 0 }) store store
+  pub no-members : {place depth first k n : ℕ} {store : List ℕ} → (kindOf (r .value) ≡ grouped → ⊥) → k ≡ kindOf (r .value) → n ≡ numberOf (r .value)
+      → Members D code vendor s place depth first (record { kind = k; number = n; errors = r .errors; records = 0 }) store store
   unfolding readAs
   no-members {store} other ek en =
       let g = no-group other in
@@ -72,9 +72,9 @@ module _ {D : Dictionary} {code vendor : ℕ} {s : List ℕ} {r : Read} (shown :
         store-is = rw (g .entered-is) (sym (over-none store));
       }
 
-pub members-written : {D : Dictionary} {code vendor : ℕ} {s : List ℕ} {place depth deeper k : ℕ} {r : Ran} {before after : List ℕ}
-    → Group D code vendor s → k ≡ grouped → deeper ≡ depth + 1 → Recorded D (tree (avps D) s) place deeper r before after
-    → Members D code vendor s place depth (record { kind = k; number = 0; errors = r .errors; records = r .records }) before after
+pub members-written : {D : Dictionary} {code vendor : ℕ} {s : List ℕ} {place depth deeper first k : ℕ} {r : Ran} {before after : List ℕ}
+    → Group D code vendor s → k ≡ grouped → deeper ≡ depth + 1 → Recorded D (tree (avps D) s) place deeper (groupBefore first) first r before after
+    → Members D code vendor s place depth first (record { kind = k; number = 0; errors = r .errors; records = r .records }) before after
 members-written g ek one w =
     record {
       kind-is = ek ∙ ap (λ (x : values.Value). x .kind) (sym (g .value-is));

@@ -1,5 +1,6 @@
 -- The loop over a run: what has been written and what is left to write. Each turn puts the records of one AVP right after those
--- before it, so at the end the records of the run stand at the front of the store.
+-- before it, so at the end the records of the run stand at the front of the store. An AVP has no more records than bytes, so the
+-- index of the next record is never past its place.
 use Prim.Native.Nat.{ℕ, _+_, _-_, _*_, _≤_, _<_}
 use mathlib.Core.Path.{_≡_, refl, sym, ap, _∙_}
 use mathlib.Core.Bool.{true, false}
@@ -16,45 +17,51 @@ use Rattle.flags.specs.Flags.{join}
 use Rattle.rfc6733.specs.Avp.{complete}
 use Rattle.rfc6733.specs.Dictionary.{Dictionary}
 use Rattle.record.specs.Record.{recordSize, laid}
-use Rattle.rfc6733.specs.Records.{avps, errors, records, recordCount}
+use Rattle.rfc6733.specs.Records.{avps, errors, recordCount}
+use Rattle.rfc6733.specs.Groups.{memberRecords}
 use Rattle.flags.proofs.Joins.{join-assoc, zero-join, join-zero}
 use Rattle.rfc6733.proofs.Items.{sound}
 use Rattle.record.proofs.Layouts.{laid-length, laid-append}
-use Rattle.rfc6733.proofs.RunRecords.{records-count}
+use Rattle.rfc6733.proofs.RunRecords.{count-tried}
+use Rattle.rfc6733.proofs.Tried.{tried-length}
+use Rattle.rfc6733.proofs.Groups.{member-count, member-joined}
 use Rattle.avp.specs.declared.AVP.{AVP}
 use Rattle.count.proofs.Lent.{Own}
 use Rattle.avps.specs.declared.fill.Ran.{Ran}
 use Rattle.avps.specs.Fill.{Room, Recorded}
 
--- Of the run t at a place, n records with the flags e are written over the store `before`, which has become `now`. The run r is
--- left, which starts at the place q.
-pub record Filling (D : Dictionary) (t r : Tree) (place q depth n e : ℕ) (before now : List ℕ) : Type 0 where
+-- Of the run t at a place, whose first record has the index `first`, n records with the flags e are written over the store `before`,
+-- which has become `now`. The run r is left, which starts at the place q.
+pub record Filling (D : Dictionary) (t r : Tree) (place q depth parent first n e : ℕ) (before now : List ℕ) : Type 0 where
   pub written : List ℕ
   pub written-length : length written ≡ n * recordSize
-  pub records-are : laid (records D place depth t) ≡ written ++ laid (records D q depth r)
+  pub records-are : laid (memberRecords D place depth parent first t) ≡ written ++ laid (memberRecords D q depth parent (first + n) r)
   pub store-is : now ≡ over written before
   pub length-kept : length now ≡ length before
   pub tiles-is : tiles t ≡ tiles r
   pub count-is : recordCount t ≡ n + recordCount r
   pub errors-are : errors D t ≡ join e (errors D r)
   pub no-deeper : deepest r ≤ deepest t
+  pub index-fits : first + n ≤ q
 
-pub nothing-filled : {D : Dictionary} {t : Tree} {place depth : ℕ} {store : List ℕ} → Filling D t t place (place + 0) depth 0 0 store store
-nothing-filled {D} {t} {store = store} =
+pub nothing-filled : {D : Dictionary} {t : Tree} {place depth parent first : ℕ} {store : List ℕ} → first ≤ place
+    → Filling D t t place (place + 0) depth parent first 0 0 store store
+nothing-filled {D} {t} {place} {first = first} {store} fits =
     record {
       written = [];
       written-length = refl;
-      records-are = rw add-zero;
+      records-are = rw (add-zero place, add-zero first);
       store-is = sym (over-none store);
       length-kept = refl;
       tiles-is = refl;
       count-is = omega arith;
       errors-are = sym (zero-join (errors D t));
       no-deeper = omega arith;
+      index-fits = omega arith;
     }
 
-module _ {D : Dictionary} {t : Tree} {place q depth n e : ℕ} {before now : List ℕ} (s : List ℕ) (at : ℕ)
-    (f : Filling D t (tree (avps D) (drop at s)) place q depth n e before now) where
+module _ {D : Dictionary} {t : Tree} {place q depth parent first n e : ℕ} {before now : List ℕ} (s : List ℕ) (at : ℕ)
+    (f : Filling D t (tree (avps D) (drop at s)) place q depth parent first n e before now) where
   -- where a byte is left of a run that tiles there is a complete AVP
   pub never-stuck : tiles t ≡ true → at < length s → complete (drop at s) ≡ false → ⊥
   never-stuck whole some none =
@@ -62,7 +69,7 @@ module _ {D : Dictionary} {t : Tree} {place q depth n e : ℕ} {before now : Lis
       false-true (sym (ap tiles broken) ∙ sym (f .tiles-is) ∙ whole)
 
   -- where none is left all is written
-  pub all-filled : length s ≤ at → Recorded D t place depth (record { records = n; errors = e }) before now
+  pub all-filled : length s ≤ at → Recorded D t place depth parent first (record { records = n; errors = e }) before now
   all-filled end =
       let none : tree (avps D) (drop at s) ≡ done = ap (tree (avps D)) (drop-of-length-le s end) ∙ tree-none (avps D) in
       let all = rw none at f in
@@ -75,32 +82,46 @@ module _ {D : Dictionary} {t : Tree} {place q depth n e : ℕ} {before now : Lis
 -- ---- one AVP more
 
 -- how many bytes a run's records take
-pub records-length : (D : Dictionary) (place depth : ℕ) (t : Tree) → length (laid (records D place depth t)) ≡ recordCount t * recordSize
-records-length D place depth t = omega (arith, laid-length (records D place depth t), records-count D place depth t)
+pub records-length : (D : Dictionary) (place depth parent first : ℕ) (t : Tree)
+    → length (laid (memberRecords D place depth parent first t)) ≡ recordCount t * recordSize
+records-length D place depth parent first t =
+    omega (arith, laid-length (memberRecords D place depth parent first t), member-count D place depth parent first t)
 
-module _ {D : Dictionary} {s : List ℕ} {place left depth : ℕ} {before : List ℕ} (fits : Room (tree (avps D) s) place (length s) left (length before))
-    {at n e : ℕ} {now : List ℕ} (f : Filling D (tree (avps D) s) (tree (avps D) (drop at s)) place (place + at) depth n e before now)
-    {a : AVP} {own : List ℕ} (o : Own D s at a own) where
+-- a run has no more records than bytes
+count-length : (D : Dictionary) (s : List ℕ) → recordCount (tree (avps D) s) ≤ length s
+count-length D s = omega (arith, count-tried (tree (avps D) s), tried-length D s)
+
+module _ {D : Dictionary} {s : List ℕ} {place left depth parent first : ℕ} {before : List ℕ}
+    (fits : Room (tree (avps D) s) place (length s) first left (length before)) {at n e : ℕ} {now : List ℕ}
+    (f : Filling D (tree (avps D) s) (tree (avps D) (drop at s)) place (place + at) depth parent first n e before now) {a : AVP} {own : List ℕ}
+    (o : Own D s at a own) where
   -- there is room for its records in what is left of the store
-  pub room-for-one : at + a .size ≤ length s
-      → Room (tree (avps D) own) (place + at) (length own) left (length (take (length now - n * recordSize) (drop (n * recordSize) now)))
-  room-for-one inside =
+  pub room-for-one : {index : ℕ} → index ≤ place + at → at + a .size ≤ length s
+      → Room (tree (avps D) own) (place + at) (length own) index left (length (take (length now - n * recordSize) (drop (n * recordSize) now)))
+  room-for-one early inside =
       let j = o .split in
       let left = ap length (rest now (n * recordSize) (omega arith)) ∙ length-drop (n * recordSize) now in
-      record { records-fit = omega arith; places-fit = omega arith; depths-fit = omega arith; levels-fit = omega arith }
+      record {
+        records-fit = omega arith;
+        places-fit = omega arith;
+        indices-fit = early;
+        depths-fit = omega arith;
+        levels-fit = omega arith;
+      }
 
   -- they are written there, and it came back
   pub one-filled : {w : Ran} {back : List ℕ}
-      → Recorded D (tree (avps D) own) (place + at) depth w (take (length now - n * recordSize) (drop (n * recordSize) now)) back
-      → Filling D (tree (avps D) s) (tree (avps D) (drop (at + a .size) s)) place (place + (at + a .size)) depth (n + w .records) (join e (w .errors))
-      before (putMid (n * recordSize) (length now - n * recordSize) now back)
+      → Recorded D (tree (avps D) own) (place + at) depth parent (first + n) w (take (length now - n * recordSize) (drop (n * recordSize) now)) back
+      → Filling D (tree (avps D) s) (tree (avps D) (drop (at + a .size) s)) place (place + (at + a .size)) depth parent first (n + w .records)
+      (join e (w .errors)) before (putMid (n * recordSize) (length now - n * recordSize) now back)
   one-filled {w} {back} one =
       let j = o .split in
       let size = n * recordSize in
-      let new = laid (records D (place + at) depth (tree (avps D) own)) in
+      let new = laid (memberRecords D (place + at) depth parent (first + n) (tree (avps D) own)) in
       let next : place + (at + a .size) ≡ place + at + a .size = omega arith in
+      let index : first + (n + w .records) ≡ first + n + recordCount (tree (avps D) own) = omega (arith, one .count-is) in
       let new-length : length (f .written ++ new) ≡ (n + w .records) * recordSize =
-      simp length-append (omega (arith, records-length D (place + at) depth (tree (avps D) own), one .count-is, f .written-length))
+      simp length-append (omega (arith, records-length D (place + at) depth parent (first + n) (tree (avps D) own), one .count-is, f .written-length))
       in
       let store : take size now ++ back ≡ over (f .written ++ new) before =
       rw (one .store-is, rest now size (omega arith), f .store-is) (over-more (f .written) new before size (f .written-length))
@@ -109,11 +130,12 @@ module _ {D : Dictionary} {s : List ℕ} {place left depth : ℕ} {before : List
       record {
         written = f .written ++ new;
         written-length = new-length;
-        records-are = rw (f .records-are, j .records-are (place + at) depth, laid-append, append-assoc);
+        records-are = rw (f .records-are, index, member-joined j (place + at) depth parent (first + n), laid-append, append-assoc);
         store-is = store;
         length-kept = rw store (over-length (f .written ++ new) before (omega (arith, new-length)));
         tiles-is = f .tiles-is ∙ j .tiles-is;
         count-is = omega (arith, one .count-is);
         errors-are = rw (f .errors-are, j .errors-are, one .errors-are, join-assoc);
         no-deeper = omega arith;
+        index-fits = omega (arith, f .index-fits, one .count-is, o .length-is, count-length D own);
       }

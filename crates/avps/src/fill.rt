@@ -8,17 +8,18 @@ use record::kinds::GROUPED;
 use value::Value;
 ghost use mathlib.Core.Path.{_≡_};
 ghost use mathlib.Core.Bool.{true, not};
-ghost use Prim.Native.Nat.{_-_, _<_};
+ghost use Prim.Native.Nat.{_-_, _≤_, _<_};
 ghost use lib.ListN.{length};
 ghost use lib.Dec.{eqb};
 ghost use Rattle.octets.specs.Run.{tree, tiles};
 ghost use Rattle.flags.specs.Flags.{join, flag, nonZeroReserved, nonZeroPadding};
+ghost use Rattle.record.specs.Parents.{topLevel};
 ghost use Rattle.rfc6733.specs.Avp.{Exact, avpReserved};
 ghost use Rattle.rfc6733.specs.Records.{avps};
 ghost use Rattle.rfc6733.specs.Entered.{entered};
 ghost use Rattle.front.specs.Front.{avpOf};
 ghost use Rattle.attribute.specs.ByTable.{dictionaryBy};
-ghost use Rattle.avps.specs.Fill.{Room, RunRecorded, ValueRead};
+ghost use Rattle.avps.specs.Fill.{Room, groupBefore, RunRecorded, ValueRead};
 
 // How many records, and their error flags joined.
 pub(super) struct Ran {
@@ -44,19 +45,33 @@ fn own_errors(a: AVP, pads: u32) -> u8
     )
 }
 
-// The records of the run `s`, which stands at `place` of the input. Of the levels `left` remain, its own among them.
+// The group of a run stands right before its first member. A run whose first record is the first of all has none.
+fn group_before(first: usize) -> u32
+    requires { ⌜ first ≤ topLevel ⌝ }
+    ensures { λ p. ⌜ p ≡ groupBefore first ⌝ }
+{
+    if first == 0 {
+        return Record::TOP_LEVEL;
+    }
+    (first - 1) as u32
+}
+
+// The records of the run `s`, which stands at `place` of the input; the first has the index `first`. Of the levels `left` remain,
+// its own among them.
 pub(super) fn read_run(
     d: Dictionary,
     kinds: &[u8],
     s: &[u8],
     place: usize,
+    first: usize,
     left: usize,
     store: &mut [u8],
 ) -> Ran
     requires { ⌜ tiles (tree (avps (dictionaryBy d (now kinds))) (now s)) ≡ true ⌝ }
-    requires { ⌜ Room (tree (avps (dictionaryBy d (now kinds))) (now s)) place (length (now s)) left (length (now store)) ⌝ }
-    ensures { λ r. ⌜ RunRecorded (dictionaryBy d (now (kinds .entry))) (now (s .entry)) place left r (now (store .entry)) (now (store .exit)) ⌝ }
+    requires { ⌜ Room (tree (avps (dictionaryBy d (now kinds))) (now s)) place (length (now s)) first left (length (now store)) ⌝ }
+    ensures { λ r. ⌜ RunRecorded (dictionaryBy d (now (kinds .entry))) (now (s .entry)) place (groupBefore first) first left r (now (store .entry)) (now (store .exit)) ⌝ }
 {
+    let parent = group_before(first);
     let mut at: usize = 0;
     let mut n: usize = 0;
     let mut errors: u8 = 0;
@@ -71,6 +86,8 @@ pub(super) fn read_run(
             &s[at..next],
             a,
             place + at,
+            first + n,
+            parent,
             left,
             &mut store[n * Record::SIZE..],
         );
@@ -81,19 +98,21 @@ pub(super) fn read_run(
     Ran { records: n, errors }
 }
 
-// The records of the AVP `a`, whose own bytes are `s`: its own, and its members' after it.
+// The records of the AVP `a`, whose own bytes are `s`: its own, which has an index and a parent, and its members' after it.
 fn read_avp(
     d: Dictionary,
     kinds: &[u8],
     s: &[u8],
     a: AVP,
     place: usize,
+    index: usize,
+    parent: u32,
     left: usize,
     store: &mut [u8],
 ) -> Ran
     requires { ⌜ (a ≡ avpOf (now s)) × Exact (now s) ⌝ }
-    requires { ⌜ Room (tree (avps (dictionaryBy d (now kinds))) (now s)) place (length (now s)) left (length (now store)) ⌝ }
-    ensures { λ r. ⌜ RunRecorded (dictionaryBy d (now (kinds .entry))) (now (s .entry)) place left r (now (store .entry)) (now (store .exit)) ⌝ }
+    requires { ⌜ Room (tree (avps (dictionaryBy d (now kinds))) (now s)) place (length (now s)) index left (length (now store)) ⌝ }
+    ensures { λ r. ⌜ RunRecorded (dictionaryBy d (now (kinds .entry))) (now (s .entry)) place parent index left r (now (store .entry)) (now (store .exit)) ⌝ }
 {
     let from = a.header_size();
     let to = a.length;
@@ -104,6 +123,7 @@ fn read_avp(
         a.vendor_id,
         &s[from..to],
         place + from,
+        index + 1,
         left,
         &mut store[Record::SIZE..],
     );
@@ -121,6 +141,7 @@ fn read_avp(
         padding: (a.size - to) as u8,
         pads,
         value: value.number,
+        parent,
     }.put(store);
     Ran {
         records: 1 + value.records,
@@ -128,7 +149,8 @@ fn read_avp(
     }
 }
 
-// The value of an AVP's data, which stand at `place`, and the records of its members, which are one level deeper.
+// The value of an AVP's data, which stand at `place`, and the records of its members, which are one level deeper and the first of
+// which has the index `first`.
 fn read_value(
     d: Dictionary,
     kinds: &[u8],
@@ -136,18 +158,19 @@ fn read_value(
     vendor: u32,
     data: &[u8],
     place: usize,
+    first: usize,
     left: usize,
     store: &mut [u8],
 ) -> Valued
     requires { ⌜ 0 < left ⌝ }
-    requires { ⌜ Room (entered (dictionaryBy d (now kinds)) code vendor (now «data»)) place (length (now «data»)) (left - 1) (length (now store)) ⌝ }
-    ensures { λ r. ⌜ ValueRead d (now (kinds .entry)) code vendor (now («data» .entry)) place left r (now (store .entry)) (now (store .exit)) ⌝ }
+    requires { ⌜ Room (entered (dictionaryBy d (now kinds)) code vendor (now «data»)) place (length (now «data»)) first (left - 1) (length (now store)) ⌝ }
+    ensures { λ r. ⌜ ValueRead d (now (kinds .entry)) code vendor (now («data» .entry)) place first left r (now (store .entry)) (now (store .exit)) ⌝ }
 {
     let read = Value::new(d.families, attribute::kind(d, kinds, code, vendor), data);
     let value = read.value;
     let kind = value.kind();
     if kind == GROUPED {
-        let members = read_run(d, kinds, data, place, left - 1, store);
+        let members = read_run(d, kinds, data, place, first, left - 1, store);
         return Valued {
             kind,
             number: 0,

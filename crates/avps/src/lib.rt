@@ -38,10 +38,10 @@ const LAST_PLACE: u32 = 0xffff_ffff;
 // Fills the store with the records of the run `s`, which stands at `place`, and with zero after them. Answers their error flags.
 fn fill_store(d: Dictionary, kinds: &[u8], s: &[u8], place: usize, store: &mut [u8]) -> u8
     requires { ⌜ tiles (tree (avps (dictionaryBy d (now kinds))) (now s)) ≡ true ⌝ }
-    requires { ⌜ Room (tree (avps (dictionaryBy d (now kinds))) (now s)) place (length (now s)) mostDepth (length (now store)) ⌝ }
+    requires { ⌜ Room (tree (avps (dictionaryBy d (now kinds))) (now s)) place (length (now s)) 0 mostDepth (length (now store)) ⌝ }
     ensures { λ r. ⌜ RunCleared (dictionaryBy d (now (kinds .entry))) (now (s .entry)) place r (now (store .entry)) (now (store .exit)) ⌝ }
 {
-    let ran = fill::read_run(d, kinds, s, place, AVP::MOST_DEPTH, store);
+    let ran = fill::read_run(d, kinds, s, place, 0, AVP::MOST_DEPTH, store);
     let n = ran.records;
     record::clear(&mut store[n * Record::SIZE..]);
     ran.errors

@@ -12,7 +12,7 @@ use Rattle.rfc6733.specs.Avp.{flags, avpLength, vendorBit, headSize, vendor, da
 use Rattle.rfc6733.proofs.Complete.{Whole, sizes}
 use Rattle.avp.specs.declared.AVP.{AVP}
 use Rattle.front.specs.Front.{avpOf}
-use Rattle.front.proofs.Words.{high-byte, low-three}
+use Rattle.octets.proofs.Words.{high-byte, low-three}
 
 module _ (s : List ℕ) where
   -- l is the length that the AVP states, and h its header's size
@@ -25,12 +25,12 @@ module _ (s : List ℕ) where
 
   -- the same of the word that holds the flags and the length
   pub flags-of-word : (w : ℕ) → Bytes s → w ≡ be 4 s 4 → w / 0x1000000 ≡ flags s
-  flags-of-word w bytes e = ap (λ (x : ℕ). x / 0x1000000) e ∙ high-byte s bytes
+  flags-of-word w bytes e = ap (λ (x : ℕ). x / 0x1000000) e ∙ high-byte s bytes 4
 
   pub stated-word : (w h : ℕ) → Bytes s → w ≡ be 4 s 4 → h ≡ headSize (w / 0x1000000) → Stated (w % 0x1000000) h
   stated-word w h bytes e header =
       record {
-        length-is = ap (λ (x : ℕ). x % 0x1000000) e ∙ low-three s bytes;
+        length-is = ap (λ (x : ℕ). x % 0x1000000) e ∙ low-three s bytes 4;
         header-is = header ∙ ap headSize (flags-of-word w bytes e);
       }
 

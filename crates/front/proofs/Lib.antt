@@ -2,4 +2,3 @@ pub mod AnswerOf
 pub mod Fields
 pub mod Fronts
 pub mod Refusals
-mod Words

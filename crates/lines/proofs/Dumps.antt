@@ -36,12 +36,12 @@ front-is k n s e = by (leb (length s) k) refl
     by true f = let h = leb-true (length s) k f in take-all n s (omega arith) ∙ sym (take-all k s h)
     by false f = let h = leb-false (length s) k f in let same : n ≡ k = omega arith in ap (λ (x : ℕ). take x s) same
 
--- the text of an input is `text`, and an array of 65,600 bytes has room for it
+-- the text of an input is `text`, and an array of 76,875 bytes has room for it
 pub record Text (s text : List ℕ) : Type 0 where
   pub is : dumped s ≡ text
-  pub short : length text ≤ 65600
+  pub short : length text ≤ 76875
 
-pub text-put : {n : ℕ} {text before after : List ℕ} (s : List ℕ) → length before ≡ 65600 → Text s text → Put n text before after
+pub text-put : {n : ℕ} {text before after : List ℕ} (s : List ℕ) → length before ≡ 76875 → Text s text → Put n text before after
     → (after ≡ over (dumped s) before) × ((n ≡ length (dumped s)) × io.Counts n after)
 text-put {n} {text} {before} {after} s size t p =
     let same : length after ≡ length before = ap length (p .out-is) ∙ over-length text before (omega (arith, t .short)) in
@@ -73,7 +73,7 @@ module _ (s front : List ℕ) (front-of : front ≡ take 32768 s) where
     unfolding messageOf
     as-long = ap (λ (x : Message). x .counts .length) (sym (when-accepted sawp 64 1024 front m e .message-is))
 
-    pub accepted-text : (table : List ℕ) → table ≡ laid rs ++ replicate (32768 - length (laid rs)) 0 → Stored s (m .counts) table
+    pub accepted-text : (table : List ℕ) → table ≡ laid rs ++ replicate (36864 - length (laid rs)) 0 → Stored s (m .counts) table
     unfolding dumped dumpText dump
     accepted-text table t =
         let a = when-accepted sawp 64 1024 front m e in
@@ -96,5 +96,5 @@ module _ (s front : List ℕ) (front-of : front ≡ take 32768 s) where
                     );
               };
           there =
-              omega (arith, as-many, ap length t, length-append (laid rs) (replicate (32768 - length (laid rs)) 0), laid-length rs);
+              omega (arith, as-many, ap length t, length-append (laid rs) (replicate (36864 - length (laid rs)) 0), laid-length rs);
         }

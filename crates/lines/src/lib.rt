@@ -22,8 +22,8 @@ pub const INPUT: usize = 32768;
 /// How many records a message may have.
 pub const RECORDS: usize = 1024;
 
-/// How many bytes a line takes at most: 57 digits, and a byte after each of 7 numbers.
-pub const LINE: usize = 64;
+/// How many bytes a line takes at most: 67 digits, and a byte after each of 8 numbers.
+pub const LINE: usize = 75;
 
 /// How many bytes the text takes at most.
 pub const SIZE: usize = (RECORDS + 1) * LINE;
@@ -69,6 +69,7 @@ fn put_record(table: &[u8], out: &mut [u8]) -> usize
         r.errors as u64,
         r.length as u64,
         r.value,
+        r.parent as u64,
     ];
     put_line(&numbers, out)
 }

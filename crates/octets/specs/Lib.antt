@@ -1,3 +1,4 @@
 pub mod Octets
 pub mod Run
 pub mod AtHand
+pub mod Word

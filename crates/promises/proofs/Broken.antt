@@ -24,7 +24,7 @@ use Rattle.record.specs.Store.{stored}
 use Rattle.rfc6733.specs.Header.{headerSize, messageLength}
 use Rattle.rfc6733.specs.Avp.{avpSize}
 use Rattle.record.specs.Counts as definition
-use Rattle.rfc6733.specs.Decoder.{runRecords, runCounts, messageBody, messageRecords, aloneRecords, aloneOf}
+use Rattle.rfc6733.specs.Decoder.{runCounts, messageBody, messageRecords, aloneRecords, aloneOf}
 use Rattle.rfc6733.specs.Broken.{TellsBreak}
 use Rattle.rfc6733.proofs.Accepted.{when-alone}
 use Rattle.octets.proofs.Held.{holds-here}
@@ -73,7 +73,7 @@ utf8-exactly κs text r n p =
 pub each-tells-break : (way : Way) (κs : Lfts 2) (limit : ℕ) (input store : Slice) (m : Message) (store′ : Slice)
     → Decode way κs limit input store (decoder.Accepted m) store′ → Bytes (now input)
     → Every (TellsBreak (dictionaryOf way) (now input)) (wholeRecords (m .records) (now store′))
-unfolding answerOf stored messageRecords runRecords messageBody
+unfolding answerOf stored messageRecords messageBody
 each-tells-break way κs limit input store m store′ p bytes =
     let D = dictionaryOf way in
     let s = now input in
@@ -82,13 +82,13 @@ each-tells-break way κs limit input store m store′ p bytes =
     let l = left D _ _ s m (now store′) _ e (says .store-is) in
     every-back (TellsBreak D s) (messageRecords D s) _ _ _ (l .records-counted) (says .store-is)
     (whole D (lawful way) (address-small way) _ _ s (messageAs m) bytes e)
-    (every-tells D (address-silent way) s bytes (messageBody s) headerSize 1 (holds-here s headerSize (messageLength s - headerSize)))
+    (every-tells D (address-silent way) s bytes (messageBody s) headerSize (holds-here s headerSize (messageLength s - headerSize)))
 
 -- the same of one AVP alone
 pub each-tells-alone : (way : Way) (κs : Lfts 2) (limit : ℕ) (input store : Slice) (c : Counts) (store′ : Slice)
     → DecodeAlone way κs limit input store (filled.Accepted c) store′ → Bytes (now input)
     → Every (TellsBreak (dictionaryOf way) (now input)) (wholeRecords (c .records) (now store′))
-unfolding avps.answerOf avps.countsAs stored aloneOf runCounts aloneRecords runRecords item
+unfolding avps.answerOf avps.countsAs stored aloneOf runCounts aloneRecords item
 each-tells-alone way κs limit input store c store′ p bytes =
     let D = dictionaryOf way in
     let s = now input in
@@ -97,4 +97,4 @@ each-tells-alone way κs limit input store c store′ p bytes =
     let counted : length (aloneRecords D s) ≡ c .records = ap (λ (x : definition.Counts). x .records) (when-alone D limit _ s _ e .counts-are) in
     every-back (TellsBreak D s) (aloneRecords D s) _ _ _ counted (says .store-is)
     (alone-whole D (lawful way) (address-small way) _ _ s _ bytes e)
-    (every-tells D (address-silent way) s bytes (take (avpSize s) s) 0 1 (holds-here s 0 (avpSize s)))
+    (every-tells D (address-silent way) s bytes (take (avpSize s) s) 0 (holds-here s 0 (avpSize s)))

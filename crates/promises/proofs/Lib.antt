@@ -12,3 +12,4 @@ pub mod Utf8
 pub mod Times
 pub mod Broken
 pub mod Packets
+pub mod Parents

@@ -43,7 +43,7 @@ use Rattle.record.proofs.AnswerOf.{answer-of-injective}
 use Rattle.promises.proofs.OneOutcome.Calls.{Slice, ParsePacket, WritePacket}
 
 -- a packet that was accepted, with its authenticator
-abbrev accepts : Packet → List ℕ → Parsed
+abbrev pub accepts : Packet → List ℕ → Parsed
 accepts p a = record { decoded = decoder.Accepted p; authenticator = a }
 
 abbrev headed : Packet → List ℕ → Header
@@ -52,15 +52,15 @@ headed p a = record { code = p .code; identifier = p .identifier; authenticator 
 -- ---- what an acceptance leaves
 
 -- p was accepted of the bytes s with room for n records, and its records stand in the store
-record Left (n : ℕ) (s : List ℕ) (p : Packet) (a store : List ℕ) : Type 0 where
-  answer-is : decoded n s ≡ accepted (packetAs a p)
+pub record Left (n : ℕ) (s : List ℕ) (p : Packet) (a store : List ℕ) : Type 0 where
+  pub answer-is : decoded n s ≡ accepted (packetAs a p)
   header-is : headerOf s ≡ headed p a
   length-is : packetLength s ≡ p .length
-  counted : length (packetRecords s) ≡ p .records
-  rest : List ℕ
-  store-is : store ≡ laid (packetRecords s) ++ rest
+  pub counted : length (packetRecords s) ≡ p .records
+  pub rest : List ℕ
+  pub store-is : store ≡ laid (packetRecords s) ++ rest
 
-left : (κs : Lfts 2) (input store : Slice) (p : Packet) (a : List ℕ) (store′ : Slice)
+pub left : (κs : Lfts 2) (input store : Slice) (p : Packet) (a : List ℕ) (store′ : Slice)
     → ParsePacket κs input store (accepts p a) store′ → Left (room (now store)) (now input) p a (now store′)
 unfolding answerWith packetAs packetOf stored
 left κs input store p a store′ call =

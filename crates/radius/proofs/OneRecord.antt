@@ -7,6 +7,7 @@ use lib.ListN.{length, getD, take, drop}
 use Rattle.octets.specs.Octets.{over}
 use Rattle.octets.proofs.Numbers.{one-byte}
 use Rattle.record.specs.Record.{Record, recordSize, recordBytes}
+use Rattle.record.specs.Parents.{topLevel}
 use Rattle.record.specs.Store.{put}
 use Rattle.record.specs.Value as values
 use Rattle.record.proofs.Room.{put-with-room}
@@ -32,6 +33,7 @@ ownRecord code length place v =
       padding = 0;
       pads = 0;
       value = v .number;
+      parent = topLevel;
     }
 
 module _ {place : ℕ} {s : List ℕ} (o : Own place s) (v : Value) where

@@ -77,6 +77,7 @@ fn read_attribute(s: &[u8], place: usize, store: &mut [u8]) -> u8
         padding: 0,
         pads: 0,
         value: value.number,
+        parent: Record::TOP_LEVEL,
     }.put(store);
     value.errors
 }

@@ -5,13 +5,15 @@ use mathlib.Core.Bool.{true, false, _&&_, and-true, and-false, and-assoc}
 use lib.Dec.{leb, eqb}
 use borrow.Author.Tests.{le-leb, eq-eqb}
 use Rattle.record.specs.Record.{Record}
+use Rattle.record.specs.Parents.{topLevel}
 use Rattle.rfc2865.specs.Attribute.{headSize, mostLength}
 use Rattle.rfc2865.specs.Writer.{statedData, keeps}
 use Rattle.radius_writer.specs.Rules.{isFixed}
 
-pub then-pads : (r : Record) → r .depth ≡ 1 → r .flags ≡ 0 → r .vendor ≡ 0 → r .padding ≡ 0 → eqb (r .pads) 0 ≡ isFixed r
+pub then-parent : (r : Record) → r .depth ≡ 1 → r .flags ≡ 0 → r .vendor ≡ 0 → r .padding ≡ 0 → r .pads ≡ 0
+    → eqb (r .parent) topLevel ≡ isFixed r
 unfolding isFixed
-then-pads r depth flags vendor padding = simp (eq-eqb, and-true)
+then-parent r depth flags vendor padding pads = simp (eq-eqb, and-true)
 
 module _ (n : ℕ) (r : Record) where
   -- the unused fields asked as one

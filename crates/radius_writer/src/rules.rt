@@ -28,7 +28,10 @@ fn is_fixed(r: Record) -> bool
     if r.padding != 0 {
         return false;
     }
-    r.pads == 0
+    if r.pads != 0 {
+        return false;
+    }
+    r.parent == Record::TOP_LEVEL
 }
 
 // The rules of a record, where so many bytes are there to point into.

@@ -1,4 +1,4 @@
--- A record is read back whole from its 32 bytes, where all its numbers fit; so what holds of each record that was put into a store holds of
+-- A record is read back whole from its 36 bytes, where all its numbers fit; so what holds of each record that was put into a store holds of
 -- each that is read from it.
 use Prim.Native.Nat.{ℕ, suc, _^_, _<_}
 use mathlib.Core.Path.{_≡_, refl, sym, ap, ap₂, _∙_}
@@ -28,7 +28,7 @@ record-back r more f v =
     let g = fit-at (recordLayout .sizes) (recordLayout .numbers (bare r)) f in
     let e = v .errors-fit in
     value-back recordLayout (λ x. refl) r more
-    (g 0, (g 1, (g 2, (g 3, (g 4, (g 5, (g 6, (omega arith, (g 8, (g 9, (g 10, (v .value-fits, tt))))))))))))
+    (g 0, (g 1, (g 2, (g 3, (g 4, (g 5, (g 6, (omega arith, (g 8, (g 9, (g 10, (v .value-fits, (g 12, tt)))))))))))))
 
 pub records-back : (rs : List Record) (more : List ℕ) → Whole rs → wholeRecords (length rs) (laid rs ++ more) ≡ rs
 records-back [] more w = refl

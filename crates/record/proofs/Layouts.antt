@@ -1,4 +1,4 @@
--- A record takes 32 bytes, and n records 32 times n: the widths of its layout add up.
+-- A record takes 36 bytes, and n records 36 times n: the widths of its layout add up.
 use Prim.Native.Nat.{ℕ, _+_, _*_}
 use mathlib.Core.Path.{_≡_, refl, sym, ap, _∙_}
 use mathlib.Core.List.{List, [], _∷_, _++_, append-assoc}

@@ -9,6 +9,7 @@ pub mod Turned
 pub mod Whole
 pub mod Rows
 pub mod Tables
+pub mod Parents
 pub mod Cleared
 pub mod Chosen
 pub mod Breaks

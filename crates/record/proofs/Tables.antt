@@ -1,4 +1,4 @@
--- A table record by record: the first is read from its front, and the others are the table 32 bytes further on. Records that are laid
+-- A table record by record: the first is read from its front, and the others are the table 36 bytes further on. Records that are laid
 -- out are read back, up to error flags and value, if their numbers fit: this is the law of layouts. Those that are read from bytes fit.
 use Prim.Native.Nat.{ℕ, zero, suc, _+_, _*_, _/_, _^_, _≤_, _<_}
 use mathlib.Core.Path.{_≡_, refl, ap, _∙_}
@@ -82,7 +82,7 @@ record-fits : (s : List ℕ) → Bytes s → Fits (entryAt s)
 unfolding entryAt recordAt bare
 record-fits s b =
     let f = fit-at (recordLayout .sizes) (unpack (recordLayout .sizes) s 0) (unpack-fits (recordLayout .sizes) s 0 b) in
-    (f 0, (f 1, (f 2, (f 3, (f 4, (f 5, (f 6, (omega arith, (f 8, (f 9, (omega arith, (omega arith, tt))))))))))))
+    (f 0, (f 1, (f 2, (f 3, (f 4, (f 5, (f 6, (omega arith, (f 8, (f 9, (omega arith, (omega arith, (f 12, tt)))))))))))))
 
 pub table-fits : (s : List ℕ) → Bytes s → AllFit (tableOf s)
 unfolding tableOf recordsIn

@@ -4,6 +4,7 @@ pub mod Rows
 pub mod Record
 pub mod Outline
 pub mod Table
+pub mod Parents
 pub mod Forest
 pub mod Counts
 pub mod Refusals

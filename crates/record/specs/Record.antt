@@ -13,9 +13,10 @@ Record = declared.Record
 abbrev pub recordLayout : Layout Record
 recordLayout =
     record {
-      sizes = 4 ∷ 1 ∷ 3 ∷ 4 ∷ 4 ∷ 1 ∷ 1 ∷ 1 ∷ 1 ∷ 3 ∷ 1 ∷ 8 ∷ [];
+      sizes = 4 ∷ 1 ∷ 3 ∷ 4 ∷ 4 ∷ 1 ∷ 1 ∷ 1 ∷ 1 ∷ 3 ∷ 1 ∷ 8 ∷ 4 ∷ [];
       numbers =
-          λ r. r .code ∷ r .flags ∷ r .length ∷ r .vendor ∷ r .place ∷ r .depth ∷ r .kind ∷ r .errors ∷ r .padding ∷ r .pads ∷ 0 ∷ r .value ∷ [];
+          λ r.
+          r .code ∷ r .flags ∷ r .length ∷ r .vendor ∷ r .place ∷ r .depth ∷ r .kind ∷ r .errors ∷ r .padding ∷ r .pads ∷ 0 ∷ r .value ∷ r .parent ∷ [];
       made =
           λ ns.
           record {
@@ -30,6 +31,7 @@ recordLayout =
             padding = getD ns 8 0;
             pads = getD ns 9 0;
             value = getD ns 11 0;
+            parent = getD ns 12 0;
           };
     }
 

@@ -24,6 +24,7 @@ withBoth r errors value =
       padding = r .padding;
       pads = r .pads;
       value = value;
+      parent = r .parent;
     }
 
 -- the writer takes neither

@@ -1,7 +1,8 @@
-// The record of an AVP, or of an attribute of RADIUS, and its 32 bytes (docs/FORMAT.md, 6): written to a store and read from a table.
+// The record of an AVP, or of an attribute of RADIUS, and its 36 bytes (docs/FORMAT.md, 6): written to a store and read from a table.
 // This crate knows the layout, and nothing of how a record comes about.
 pub mod kinds;
 pub mod outline;
+mod word;
 pub mod written;
 
 ghost use mathlib.Core.Path.{_≡_};
@@ -31,6 +32,8 @@ pub struct Record {
     /// The padding as a number of three bytes, the unused ones 0
     pub pads: u32,
     pub value: u64,
+    /// The index of the record of its group, or `TOP_LEVEL`
+    pub parent: u32,
 }
 
 fn put_u8(store: &mut [u8], at: usize, v: u8)
@@ -110,7 +113,10 @@ pub fn clear(store: &mut [u8])
 }
 
 impl Record {
-    pub const SIZE: usize = 32;
+    pub const SIZE: usize = 36;
+
+    /// The parent of a record at depth 1.
+    pub const TOP_LEVEL: u32 = 0xffff_ffff;
 
     // The fields of the AVP's header (RFC 6733, section 4.1).
     fn put_header(self, store: &mut [u8])
@@ -134,6 +140,7 @@ impl Record {
         put_u8(store, 19, self.padding);
         put_u24_u8(store, 20, self.pads, 0);
         put_u64(store, 24, self.value);
+        put_u32(store, 32, self.parent);
     }
 
     /// Puts the record at the front of a store, if there is room. Of a length or padding over 24 bits it puts the lowest 24.
@@ -161,23 +168,26 @@ impl Record {
         bytes
     }
 
-    // Bytes 18, 23 and 24 to 31 are not read.
+    // Bytes 18, 23 and 24 to 31 have no part in it.
     fn fields(table: &[u8]) -> Record
         requires { ⌜ recordSize ≤ length (now table) ⌝ }
         ensures { λ r. ⌜ r ≡ entryAt (now (table .entry)) ⌝ }
     {
+        let flags_length = word::be_u32(table, 4);
+        let pads = word::be_u32(table, 20);
         Record {
-            code: octets::be_u32(table[0], table[1], table[2], table[3]),
-            flags: table[4],
-            length: octets::be_u24(table[5], table[6], table[7]),
-            vendor: octets::be_u32(table[8], table[9], table[10], table[11]),
-            place: octets::be_u32(table[12], table[13], table[14], table[15]),
+            code: word::be_u32(table, 0),
+            flags: (flags_length / 0x100_0000) as u8,
+            length: flags_length % 0x100_0000,
+            vendor: word::be_u32(table, 8),
+            place: word::be_u32(table, 12),
             depth: table[16],
             kind: table[17],
             errors: 0,
             padding: table[19],
-            pads: octets::be_u24(table[20], table[21], table[22]),
+            pads: pads / 0x100,
             value: 0,
+            parent: word::be_u32(table, 32),
         }
     }
 

@@ -16,12 +16,14 @@ use unit_value::Compared;
 use unit_value::Ordering;
 use unit_value::UnitValue;
 use writer::Fields;
+ghost use mathlib.Core.Path.{_≡_};
 ghost use Prim.Native.Nat.{_≤_};
 ghost use lib.ListN.{length};
 
 const FRAME_SIZE: usize = 9;
 
-const BUFFER_SIZE: usize = 65536;
+// It holds the records of the longest packet of RADIUS, or a table of them with what stands before it.
+const BUFFER_SIZE: usize = 2048 * Record::SIZE;
 
 // The store has some bytes past its last record, since those are cleared too.
 const SPARE: usize = 5;
@@ -311,14 +313,21 @@ fn exchange(frame: [u8; FRAME_SIZE], input: &mut [u8], store: &mut [u8]) -> bool
     io::write_all(1, store)
 }
 
+// A function of its own, so that its caller is proved by the length and not byte by byte.
+fn zeros() -> [u8; BUFFER_SIZE]
+    ensures { λ r. ⌜ 73728 ≡ length r ⌝ }
+{
+    [0; BUFFER_SIZE]
+}
+
 // Reads a frame and answers it; false where there is none.
 fn next() -> bool {
     let mut frame = [0u8; FRAME_SIZE];
     if io::read_full(0, &mut frame) < FRAME_SIZE {
         return false;
     }
-    let mut input = io::large_buffer();
-    let mut store = io::large_buffer();
+    let mut input = zeros();
+    let mut store = zeros();
     let size = input_size(frame);
     let room = store_size(frame);
     if BUFFER_SIZE < size {

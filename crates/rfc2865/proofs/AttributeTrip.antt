@@ -93,6 +93,7 @@ module _ (pool : List ℕ) (place : ℕ) (a : List ℕ) (st : Stands pool place 
         vendor-is = refl;
         padding-is = refl;
         pads-are = refl;
+        parent-is = refl;
         within = omega (arith, w .least, st .length-is);
       })
 
@@ -104,4 +105,4 @@ module _ (pool : List ℕ) (place : ℕ) (a : List ℕ) (st : Stands pool place 
       let near = st .near in
       let least = st .whole .least in
       let is = st .length-is in
-      (omega arith, (omega arith, (omega arith, (omega arith, (omega arith, (omega arith, (kind-small a, (omega arith, (omega arith, (omega arith, (omega arith, (omega arith, tt))))))))))))
+      (omega arith, (omega arith, (omega arith, (omega arith, (omega arith, (omega arith, (kind-small a, (omega arith, (omega arith, (omega arith, (omega arith, (omega arith, (omega arith, tt)))))))))))))

@@ -3,6 +3,7 @@ pub mod Tried
 pub mod Accepted
 pub mod Rules
 pub mod Written
+pub mod TopLevel
 pub mod Lengths
 pub mod Packets
 pub mod AttributeTrip

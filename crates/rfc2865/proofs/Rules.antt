@@ -7,6 +7,7 @@ use mathlib.Core.List.{List, [], _∷_}
 use native.Mathlib.Omega.{arith}
 use lib.ListN.{length}
 use Rattle.record.specs.Record.{Record}
+use Rattle.record.specs.Parents.{topLevel}
 use Rattle.record.specs.Table.{Every}
 use Rattle.refusal.proofs.Tests.{decide, eq-is, tests}
 use Rattle.rfc2865.specs.Attribute.{headSize, mostLength}
@@ -21,6 +22,7 @@ pub record Good (n : ℕ) (r : Record) : Type 0 where
   pub vendor-is : r .vendor ≡ 0
   pub padding-is : r .padding ≡ 0
   pub pads-are : r .pads ≡ 0
+  pub parent-is : r .parent ≡ topLevel
   pub within : r .place + statedData r ≤ n
 
 pub keeps-good : (n : ℕ) (r : Record) → keeps n r ≡ true → Good n r

@@ -9,6 +9,7 @@ use Rattle.flags.specs.Flags.{dataLength, join}
 use Rattle.record.specs.Kinds.{unhandled, unsigned32, utf8String, address}
 use Rattle.record.specs.Value.{Value, value, text}
 use Rattle.record.specs.Record.{Record}
+use Rattle.record.specs.Parents.{topLevel}
 use Rattle.rfc2865.specs.Attribute.{headSize, code, attributeLength, payload}
 use Rattle.rfc2865.specs.Types.{kindOf}
 
@@ -41,6 +42,7 @@ recordOf place a =
       padding = 0;
       pads = 0;
       value = valueOf a .number;
+      parent = topLevel;
     }
 
 -- those of attributes that stand one after the other, the first at a place

@@ -8,6 +8,7 @@ use Rattle.octets.specs.Octets.{pack, fieldsOf}
 use Rattle.refusal.specs.Answer.{Answer, refuse, answer}
 use Rattle.refusal.specs.declared.Refusal.the-variants.{TooLong, NoRoom}
 use Rattle.record.specs.Record.{Record}
+use Rattle.record.specs.Parents.{topLevel}
 use Rattle.record.specs.Table.{tableOf, all, badTable}
 use Rattle.rfc2865.specs.Attribute.{headSize, headLayout, mostLength}
 use Rattle.rfc2865.specs.Packet.{Header, frontLayout, headerSize, mostPacket}
@@ -30,6 +31,7 @@ keeps n r =
     ∷ eqb (r .vendor) 0
     ∷ eqb (r .padding) 0
     ∷ eqb (r .pads) 0
+    ∷ eqb (r .parent) topLevel
     ∷ leb (r .place + statedData r) n
     ∷ [])
 

@@ -5,7 +5,7 @@ use Prim.Native.Nat.{ℕ, _+_, _≤_, _<_, max}
 use mathlib.Core.Path.{_≡_, sym, ap, _∙_}
 use mathlib.Core.Bool.{Bool, true, false, cond}
 use mathlib.Core.Logic.{inl, inr}
-use mathlib.Core.List.{List, _++_, append-nil, _∷_}
+use mathlib.Core.List.{List, [], _∷_, _++_, append-nil}
 use native.Mathlib.Omega.{arith}
 use lib.ListN.{length, take, drop, drop-of-length-le}
 use lib.Seq.{take-all}
@@ -24,6 +24,7 @@ use Rattle.rfc6733.specs.Avp.{code, flags, headSize, vendor, avpSize, pa
 use Rattle.record.specs.Value.{Value}
 use Rattle.record.specs.Kinds.{grouped}
 use Rattle.rfc6733.specs.Entered.{valueIn, entered}
+use Rattle.rfc6733.specs.Groups.{groups}
 use Rattle.rfc6733.proofs.Tiling.{tiles-any}
 
 -- the tree of one AVP
@@ -63,9 +64,18 @@ pub record Joined (D : Dictionary) (n : ℕ) (t a r : Tree) : Type 0 where
   pub deepest-is : deepest t ≡ max (deepest a) (deepest r)
   pub errors-are : errors D t ≡ join (errors D a) (errors D r)
   pub records-are : (place depth : ℕ) → records D place depth t ≡ records D place depth a ++ records D (place + n) depth r
+  pub groups-are : (parent first : ℕ) → groups parent first t ≡ groups parent first a ++ groups parent (first + recordCount a) r
+
+-- the index after a group and its members
+groups-joined : (a : List ℕ) (i r : Tree) (parent first : ℕ)
+    → groups parent first (group a i r) ≡ groups parent first (group a i done) ++ groups parent (first + recordCount (group a i done)) r
+groups-joined a i r parent first =
+    let inside = cond (tiles i) (groups first (first + 1) i) [] in
+    let next : first + recordCount (group a i done) ≡ first + 1 + cond (tiles i) (recordCount i) 0 = omega arith in
+    rw (next, append-nil inside)
 
 joined-node : (D : Dictionary) (b : Bool) (a : List ℕ) (i r : Tree) → Joined D (length a) (node true b a i r) (node true b a i done) r
-joined-node D true a i r = search (arith, join-zero, append-nil)
+joined-node D true a i r = search (arith, join-zero, append-nil, groups-joined a i r)
 joined-node D false a i r = search (arith, join-zero)
 
 pub joined : (D : Dictionary) (s : List ℕ) → complete s ≡ true
@@ -106,6 +116,7 @@ some-tried D s pos =
 pub record Made (D : Dictionary) (a : List ℕ) (t : Tree) (v : Value) (e : Tree) : Type 0 where
   pub records-are : (place depth : ℕ)
       → records D place depth t ≡ recordOf place depth a v ∷ records D (place + headSize (flags a)) (depth + 1) e
+  pub groups-are : (parent first : ℕ) → groups parent first t ≡ parent ∷ groups first (first + 1) e
   pub errors-are : errors D t ≡ join (ownErrors a) (v .errors)
   pub count-is : recordCount t ≡ 1 + recordCount e
   pub deeper : 1 + deepest e ≤ deepest t

@@ -24,6 +24,7 @@ use Rattle.octets.specs.Run.{item, after, Tree, done, broken, group, treeIn, tr
 use Rattle.octets.proofs.Runs.{tree-group}
 use Rattle.flags.specs.Flags.{bit}
 use Rattle.record.specs.Kinds.{grouped}
+use Rattle.record.proofs.Parents.{parented-count}
 use Rattle.rfc6733.specs.Records.{avpKind, avps, records}
 use Rattle.rfc6733.specs.Marked.{failing}
 use Rattle.rfc6733.specs.Extremal.{failingGroups, extremal}
@@ -90,13 +91,13 @@ reached D g limit room k low high fits le =
     let n = groups-length k in
     let m = message-read (record { flags = 0; code = 0; appId = 0; hopId = 0; endId = 0 }) (failingGroups k) (omega arith) in
     let run : tree (avps D) (messageBody (extremal k)) ≡ chain k = ap (tree (avps D)) (m .body-is) ∙ chained D g k in
-    let rs = ap length (ap (records D 20 1) run) ∙ chain-records D 20 1 k in
+    let rs = parented-count (records D 20 1 (tree (avps D) (messageBody (extremal k)))) ∙ ap length (ap (records D 20 1) run) ∙ chain-records D 20 1 k in
     let deep = chain-deepest k in
     record {
       bytes = m .length-is ∙ omega arith;
       is-accepted =
           accepts (messageRefusals D limit room (extremal k)) (messageOf D (extremal k))
-          (simp (passes-append, run, chain-records D 20 1 k) (simp tests (search (chain-tiles, arith))));
+          (simp (passes-append, run, parented-count (records D 20 1 (chain k)), chain-records D 20 1 k) (simp tests (search (chain-tiles, arith))));
       tried-is = ap tried run ∙ chain-tried k;
       records-is = rs;
       length-is = m .stated ∙ omega arith;
@@ -104,7 +105,7 @@ reached D g limit room k low high fits le =
 
 -- ---- the bound
 
-body-length : (s : List ℕ) → length (messageBody s) ≤ messageLength s - 20
+pub body-length : (s : List ℕ) → length (messageBody s) ≤ messageLength s - 20
 unfolding messageBody
 body-length s = let l = length-take (messageLength s - 20) (drop 20 s) in omega arith
 

@@ -7,6 +7,7 @@ pub mod Outlines
 pub mod CreditControl
 pub mod RunErrors
 pub mod Alone
+pub mod Groups
 pub mod Tried
 pub mod Messages
 pub mod Decoded

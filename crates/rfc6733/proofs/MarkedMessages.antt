@@ -9,6 +9,7 @@ use Rattle.rfc6733.specs.Header.{headerOf, headerErrors, headerRefusals}
 use Rattle.rfc6733.specs.Avp.{headSize, vendor, dataSize, padding, avpSize, payload, pads, avpRefusals, complete}
 use Rattle.rfc6733.specs.Value.{fixed, dataAs}
 use Rattle.record.specs.Value.{text}
+use Rattle.record.specs.Parents.{parented}
 use Rattle.rfc6733.specs.Dictionary.{Dictionary, familyAddress, bareAddress, rfc, sawp}
 use Rattle.rfc6733.specs.CreditControl.{rfc4006, rfc8506}
 use Rattle.rfc6733.specs.Records.{avpKind, valueOf, ownErrors, recordOf, groupValue}
@@ -23,5 +24,5 @@ abbrev dictionaries : List Dictionary
 dictionaries = sawp ∷ rfc ∷ rfc4006 ∷ rfc8506 ∷ []
 
 pub marked-messages : map (λ (D : Dictionary). map (shown D) marked) dictionaries ≡ map (λ (D : Dictionary). expected) dictionaries
-unfolding be item after treeIn tree charSize wellFormed bit join headerOf headerErrors headerRefusals headSize vendor dataSize padding avpSize payload pads avpRefusals complete fixed text dataAs familyAddress bareAddress rfc sawp rfc4006 rfc8506 avpKind valueOf ownErrors recordOf groupValue allowed runRecords runCounts messageBody messageRecords messageRefusals messageOf decoded dump
+unfolding parented be item after treeIn tree charSize wellFormed bit join headerOf headerErrors headerRefusals headSize vendor dataSize padding avpSize payload pads avpRefusals complete fixed text dataAs familyAddress bareAddress rfc sawp rfc4006 rfc8506 avpKind valueOf ownErrors recordOf groupValue allowed runRecords runCounts messageBody messageRecords messageRefusals messageOf decoded dump
 marked-messages = refl

@@ -55,6 +55,7 @@ moved bytes levels r =
       padding = r .padding;
       pads = r .pads;
       value = r .value;
+      parent = r .parent;
     }
 
 module _ (D : Dictionary) (bytes levels : ℕ) where

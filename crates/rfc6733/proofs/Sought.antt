@@ -13,9 +13,11 @@ use Rattle.refusal.proofs.Answers.{not-accepted, and-true, passed, passes-appen
 use Rattle.refusal.proofs.Tests.{decide}
 use Rattle.record.specs.Outline.{Outline, outlineOf}
 use Rattle.record.specs.Table.{ofDepth}
+use Rattle.record.specs.Parents.{toldParents, parented}
+use Rattle.record.proofs.Parents.{with-outlines}
 use Rattle.rfc6733.specs.Header.{headerSize, headerRefusals}
 use Rattle.rfc6733.specs.Dictionary.{Dictionary}
-use Rattle.rfc6733.specs.Records.{avps, unentered, tiling}
+use Rattle.rfc6733.specs.Records.{avps, unentered, tiling, records}
 use Rattle.rfc6733.specs.Decoder.{Message, allowed, limitRefusals, fitRefusals, runRefusals, runRecords, messageBody, messageRecords, messageRefusals, messageOf, decoded}
 use Rattle.record.specs.Refusals.{tileRefusals}
 use Rattle.rfc6733.specs.Search.{outlines, firstWith, isNone, sought}
@@ -69,10 +71,11 @@ module _ (code : ℕ) (s : List ℕ) where
 
     pub sought-tiled : (D : Dictionary) → tiles (tree (avps D) (messageBody s)) ≡ true
         → sought code s ≡ accepted (firstWith code (map outlineOf (ofDepth 1 (messageRecords D s))))
-    unfolding messageRecords runRecords
+    unfolding messageRecords runRecords parented
     sought-tiled D tiled =
         let body = messageBody s in
-        let own = sym (outlines-any D body headerSize) ∙ outlines-of-records D headerSize 1 (tree (avps D) body) in
+        let rs = records D headerSize 1 (tree (avps D) body) in
+        let own = sym (outlines-any D body headerSize) ∙ outlines-of-records D headerSize 1 (tree (avps D) body) ∙ sym (with-outlines 1 (toldParents rs) rs) in
         sought-past ∙ stuck-tiled first (tiling body) (sym (tiles-any D body) ∙ tiled) ∙ ap (λ (os : List Outline). accepted (firstWith code os)) own
 
   -- what the decoder accepts tiles

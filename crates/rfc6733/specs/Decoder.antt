@@ -12,6 +12,7 @@ use Rattle.rfc6733.specs.Header.{Header, headerSize, messageLength, head
 use Rattle.rfc6733.specs.Avp.{avpSize, avpRefusals, mostDepth}
 use Rattle.rfc6733.specs.Dictionary.{Dictionary}
 use Rattle.record.specs.Record.{Record}
+use Rattle.record.specs.Parents.{parented}
 use Rattle.record.specs.Counts.{Counts}
 use Rattle.record.specs.Refusals.{tileRefusals, roomRefusals}
 use Rattle.rfc6733.specs.Records.{avps, errors, records}
@@ -39,7 +40,7 @@ limitRefusals limit = refuse (not (allowed limit)) BadDepth ∷ []
 -- ---- a run of AVPs, which stands at a place
 
 unfoldable pub runRecords : Dictionary → ℕ → List ℕ → List Record
-runRecords D place s = records D place 1 (tree (avps D) s)
+runRecords D place s = parented (records D place 1 (tree (avps D) s))
 
 -- what its acceptance returns
 unfoldable pub runCounts : Dictionary → ℕ → List ℕ → Counts

@@ -18,9 +18,9 @@ pub data Dump : Type 0 where
   lines : List (List ℕ) → Dump
   refusal : Refusal → Dump
 
--- depth, code, vendor, kind, error flags, length, value
+-- depth, code, vendor, kind, error flags, length, value, parent
 abbrev pub recordLine : Record → List ℕ
-recordLine r = r .depth ∷ r .code ∷ r .vendor ∷ r .kind ∷ r .errors ∷ r .length ∷ r .value ∷ []
+recordLine r = r .depth ∷ r .code ∷ r .vendor ∷ r .kind ∷ r .errors ∷ r .length ∷ r .value ∷ r .parent ∷ []
 
 abbrev pub recordLines : List Record → List (List ℕ)
 recordLines [] = []

@@ -5,6 +5,7 @@ pub mod Signed
 pub mod Dictionary
 pub mod CreditControl
 pub mod Records
+pub mod Groups
 pub mod Entered
 pub mod Decoder
 pub mod Editions

@@ -56,17 +56,17 @@ marked =
     -- P7
     ∷ given (stating 20 16) (lines ((20 ∷ 0 ∷ 0 ∷ 0 ∷ []) ∷ []))
     -- P8
-    ∷ given (holding 36 surplus) (lines ((36 ∷ 2 ∷ 1 ∷ 1 ∷ []) ∷ (1 ∷ 268 ∷ 0 ∷ 4 ∷ 2 ∷ 13 ∷ 2001 ∷ []) ∷ []))
+    ∷ given (holding 36 surplus) (lines ((36 ∷ 2 ∷ 1 ∷ 1 ∷ []) ∷ (1 ∷ 268 ∷ 0 ∷ 4 ∷ 2 ∷ 13 ∷ 2001 ∷ 4294967295 ∷ []) ∷ []))
     -- P9
-    ∷ given (holding 32 short) (lines ((32 ∷ 2 ∷ 1 ∷ 1 ∷ []) ∷ (1 ∷ 268 ∷ 0 ∷ 0 ∷ 2 ∷ 11 ∷ 0 ∷ []) ∷ []))
+    ∷ given (holding 32 short) (lines ((32 ∷ 2 ∷ 1 ∷ 1 ∷ []) ∷ (1 ∷ 268 ∷ 0 ∷ 0 ∷ 2 ∷ 11 ∷ 0 ∷ 4294967295 ∷ []) ∷ []))
     -- P10
     ∷ given (holding 33 (take 13 surplus)) (refusal NotTiled)
     -- P11, and with the depth limit 1
-    ∷ given (holding 32 failing) (lines ((32 ∷ 1 ∷ 1 ∷ 2 ∷ []) ∷ (1 ∷ 279 ∷ 0 ∷ 0 ∷ 1 ∷ 9 ∷ 0 ∷ []) ∷ []))
+    ∷ given (holding 32 failing) (lines ((32 ∷ 1 ∷ 1 ∷ 2 ∷ []) ∷ (1 ∷ 279 ∷ 0 ∷ 0 ∷ 1 ∷ 9 ∷ 0 ∷ 4294967295 ∷ []) ∷ []))
     ∷ record { limit = 1; room = 64; input = holding 32 failing; shows = refusal TooDeep }
     -- P12, and with the depth limit 1
-    ∷ given (holding 28 empty) (lines ((28 ∷ 0 ∷ 1 ∷ 1 ∷ []) ∷ (1 ∷ 279 ∷ 0 ∷ 8 ∷ 0 ∷ 8 ∷ 0 ∷ []) ∷ []))
-    ∷ record { limit = 1; room = 64; input = holding 28 empty; shows = lines ((28 ∷ 0 ∷ 1 ∷ 1 ∷ []) ∷ (1 ∷ 279 ∷ 0 ∷ 8 ∷ 0 ∷ 8 ∷ 0 ∷ []) ∷ []) }
+    ∷ given (holding 28 empty) (lines ((28 ∷ 0 ∷ 1 ∷ 1 ∷ []) ∷ (1 ∷ 279 ∷ 0 ∷ 8 ∷ 0 ∷ 8 ∷ 0 ∷ 4294967295 ∷ []) ∷ []))
+    ∷ record { limit = 1; room = 64; input = holding 28 empty; shows = lines ((28 ∷ 0 ∷ 1 ∷ 1 ∷ []) ∷ (1 ∷ 279 ∷ 0 ∷ 8 ∷ 0 ∷ 8 ∷ 0 ∷ 4294967295 ∷ []) ∷ []) }
     -- P13
     ∷ record { limit = 64; room = 0; input = holding 36 surplus; shows = refusal (NoRecords 1) }
     ∷ []

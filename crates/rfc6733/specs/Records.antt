@@ -12,6 +12,7 @@ use Rattle.record.specs.Value.{Value, value}
 use Rattle.record.specs.Kinds.{unhandled, grouped}
 use Rattle.rfc6733.specs.Dictionary.{Dictionary}
 use Rattle.record.specs.Record.{Record}
+use Rattle.record.specs.Parents.{topLevel}
 
 -- ---- an AVP's record
 
@@ -28,7 +29,7 @@ unfoldable pub ownErrors : List ℕ → ℕ
 ownErrors a =
     join (flag (not (eqb (avp.avpReserved (avp.flags a)) 0)) nonZeroReserved) (flag (not (eqb (avp.pads a) 0)) nonZeroPadding)
 
--- the record of the AVP a, which stands at a place of the input
+-- the record of the AVP a, which stands at a place of the input. Its parent is set where the table is known (`runRecords`)
 unfoldable pub recordOf : ℕ → ℕ → List ℕ → Value → Record
 recordOf place depth a v =
     record {
@@ -43,6 +44,7 @@ recordOf place depth a v =
       padding = avp.padding (avp.dataSize a);
       pads = avp.pads a;
       value = v .number;
+      parent = topLevel;
     }
 
 -- ---- a run of AVPs

@@ -12,6 +12,7 @@ use Rattle.rfc6733.specs.Avp as avp
 use Rattle.rfc6733.specs.Header.{Header, headerLayout}
 use Rattle.record.specs.Kinds.{grouped, time}
 use Rattle.record.specs.Record.{Record}
+use Rattle.record.specs.Parents.{parentAt}
 use Rattle.record.specs.Forest.{Forest, none, node, forest}
 use Rattle.record.specs.Table.{tableOf, all, badTable}
 
@@ -45,7 +46,7 @@ keepsLeaf n r =
     ∷ eqb (r .pads % 256 ^ (3 - r .padding)) 0
     ∷ [])
 
--- A record keeps the rules where a depth is allowed at most, and n bytes are there to point into.
+-- A record keeps the rules but its parent's where a depth is allowed at most, and n bytes are there to point into.
 unfoldable pub keeps : ℕ → ℕ → Record → Bool
 keeps allowed n r =
     all
@@ -63,10 +64,16 @@ keeps allowed n r =
 unfoldable pub allowedAfter : Record → ℕ
 allowedAfter r = cond (isGroup r) (r .depth + 1) (r .depth)
 
--- how many records keep the rules before the first that breaks one; the first of a table has depth 1
-abbrev pub keepers : ℕ → ℕ → List Record → ℕ
-keepers allowed n [] = 0
-keepers allowed n (r ∷ rs) = let more = keepers (allowedAfter r) n rs in cond (keeps allowed n r) (suc more) 0
+-- the parent's rule, tested last: it is the one that earlier depths tell, the last of these first
+abbrev pub keepsParent : List ℕ → Record → Bool
+keepsParent earlier r = eqb (r .parent) (parentAt earlier (r .depth))
+
+-- how many records keep the rules before the first that breaks one, after these earlier depths; the first of a table has depth 1
+abbrev pub keepers : List ℕ → ℕ → ℕ → List Record → ℕ
+keepers earlier allowed n [] = 0
+keepers earlier allowed n (r ∷ rs) =
+    let more = keepers (r .depth ∷ earlier) (allowedAfter r) n rs in
+    cond (keeps allowed n r && keepsParent earlier r) (suc more) 0
 
 -- ---- the bytes
 
@@ -120,7 +127,7 @@ most24 = 16777215
 -- by the header fields, the table, the bytes that its places point into, and how many bytes of output there are: the total
 unfoldable pub written : Fields → List ℕ → List ℕ → ℕ → Answer ℕ
 written f table pool room =
-    let kept = keepers 1 (length pool) (tableOf table) in
+    let kept = keepers [] 1 (length pool) (tableOf table) in
     let total = length (tableBytes f table pool) in
     answer
     (refuse (ltb most24 (f .code)) BadHeader

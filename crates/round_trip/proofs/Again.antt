@@ -102,4 +102,4 @@ module _ (place depth : ℕ) (a : List ℕ) (v : Value) where
         let z = exact-sizes a exact in
         let place-fits : place + headSize (flags a) < 256 ^ 4 = omega arith in
         let pads-fit = be-small 3 (padsAt a) 0 (bytes-drop (avpLength a) a bytes) in
-        (be-small 4 a 0 bytes, (be-small 1 a 4 bytes, (be-small 3 a 5 bytes, (vendor-small bytes, (place-fits, (omega arith, (omega arith, (omega arith, (omega arith, (pads-fit, (omega arith, (omega arith, tt))))))))))))
+        (be-small 4 a 0 bytes, (be-small 1 a 4 bytes, (be-small 3 a 5 bytes, (vendor-small bytes, (place-fits, (omega arith, (omega arith, (omega arith, (omega arith, (pads-fit, (omega arith, (omega arith, (omega arith, tt)))))))))))))

@@ -23,7 +23,10 @@ use Rattle.rfc6733.proofs.Alone.{item-exact}
 use Rattle.rfc6733.proofs.Complete.{exact-sizes}
 use Rattle.rfc6733.proofs.Items.{sound, payload-length}
 use Rattle.octets.proofs.Held.{Holds, holds-front, holds-behind, holds-data, bytes-held}
+use Rattle.record.specs.Parents.{toldParents, withParent, parented}
 use Rattle.record.proofs.Tables.{every-both}
+use Rattle.record.proofs.Parents.{with-every}
+use Rattle.rfc6733.specs.Decoder.{runRecords}
 use Rattle.round_trip.proofs.AvpTrip.{payload-held}
 
 -- an AVP that stands at a place
@@ -82,7 +85,7 @@ module _ (D : Dictionary) (pool : List ℕ) (P : Record → Type 0) where
         (avps D .nested a)
         refl
 
-    pub every : (s : List ℕ) → Run s
+    every : (s : List ℕ) → Run s
     every =
         by-run (avps D) (sound (avps D .nested)) Run (λ place depth holds. rw tree-none tt)
         (λ s pos h place depth holds.
@@ -91,3 +94,10 @@ module _ (D : Dictionary) (pool : List ℕ) (P : Record → Type 0) where
           | inl e ↦ let k = h e in rw e (complete-first s e (k .0) (k .1) (k .2) place depth holds)
           | inr e ↦ rw e tt
         ]))
+
+    -- and with their parents, where P does not look at them
+    pub every-run : ((p : ℕ) (r : Record) → P r → P (withParent p r)) → (s : List ℕ) (place : ℕ) → Holds pool place s → Every P (runRecords D place s)
+    unfolding runRecords parented
+    every-run blind s place holds =
+        let rs = records D place 1 (tree (avps D) s) in
+        with-every P blind (toldParents rs) rs (every s place 1 holds)

@@ -1,4 +1,5 @@
 pub mod Rules
+pub mod Members
 pub mod Shape
 pub mod Kept
 pub mod Lengths
@@ -10,6 +11,7 @@ pub mod AvpTrip
 pub mod RunTrip
 pub mod EveryRecord
 pub mod Written
+pub mod Unwritten
 pub mod RoundTrip
 pub mod AvpBack
 pub mod ReadBack

@@ -15,10 +15,12 @@ use Rattle.refusal.specs.Answer.{accepted}
 use Rattle.rfc6733.specs.Header.{headerSize, headerLayout, messageLength, headerOf}
 use Rattle.rfc6733.specs.Dictionary.{Dictionary}
 use Rattle.record.specs.Record.{laid}
-use Rattle.rfc6733.specs.Records.{avps}
+use Rattle.rfc6733.specs.Records.{avps, records}
 use Rattle.rfc6733.specs.Decoder.{Message, runRecords, messageBody, messageRecords, decoded}
 use Rattle.record.specs.Forest.{Forest, flat}
 use Rattle.record.specs.Table.{tableOf, AllFit}
+use Rattle.record.specs.Parents.{parented}
+use Rattle.record.proofs.Parents.{parented-bare, parented-told}
 use Rattle.rfc6733.specs.Writer.{forestBytes, headerFields, messageBytes, tableBytes, most24, written}
 use Rattle.rfc6733.proofs.Accepted.{Headed, when-accepted}
 use Rattle.record.proofs.Layouts.{laid-length}
@@ -27,7 +29,9 @@ use Rattle.octets.proofs.Held.{bytes-take, bytes-drop, holds-here}
 use Rattle.record.proofs.Tables.{laid-read}
 use Rattle.round_trip.proofs.Shape.{sound-valid, sound-read}
 use Rattle.round_trip.proofs.AvpTrip.{Trip}
-use Rattle.round_trip.proofs.RunTrip.{flat-records, records-fit-as, trips}
+use Rattle.rfc6733.proofs.Demand3.{body-length}
+use Rattle.round_trip.proofs.Unwritten.{parented-bytes, parented-valid}
+use Rattle.round_trip.proofs.RunTrip.{flat-records, run-fits, trips}
 use Rattle.round_trip.proofs.Written.{writable-written}
 
 -- ---- the header
@@ -71,18 +75,22 @@ module _ (D : Dictionary) (lawful : Lawful D) (limit room : ℕ) (s : List ℕ) 
 
   pub records-fit : AllFit (messageRecords D s)
   unfolding messageRecords runRecords
-  records-fit = records-fit-as D headerSize 1 (messageBody s) (tree (avps D) (messageBody s)) trip
+  records-fit =
+      let small = be-small 3 s 1 bytes in
+      run-fits D headerSize (messageBody s) trip (omega (arith, body-length s))
 
   -- the records in the table are those of the run
-  table-is : tableOf (laid (messageRecords D s)) ≡ flat trees
+  table-is : tableOf (laid (messageRecords D s)) ≡ parented (flat trees)
   unfolding messageRecords runRecords
-  table-is = rw (laid-read (messageRecords D s) records-fit) (flat-records D headerSize 1 (tree (avps D) (messageBody s)))
+  table-is =
+      let t = tree (avps D) (messageBody s) in
+      laid-read (messageRecords D s) records-fit ∙ parented-bare (records D headerSize 1 t) ∙ ap parented (flat-records D headerSize 1 t)
 
   same-message : tableBytes (fieldsOf (headerOf s)) (laid (messageRecords D s)) s ≡ take (messageLength s) s
   unfolding tableBytes
   same-message =
       let a = when-accepted D limit room s m e in
-      rw (table-is, sound-read (length s) 1 trees (trip .sound-is)) (message-again s (forestBytes s trees) bytes (a .header) (trip .is))
+      rw (table-is, parented-bytes s (flat trees), sound-read (length s) 1 trees (trip .sound-is)) (message-again s (forestBytes s trees) bytes (a .header) (trip .is))
 
   code-small : fieldsOf (headerOf s) .code ≤ most24
   unfolding fieldsOf headerOf
@@ -102,7 +110,8 @@ module _ (D : Dictionary) (lawful : Lawful D) (limit room : ℕ) (s : List ℕ) 
             writable-written (fieldsOf (headerOf s)) table s room′
             (record {
               code-fits = code-small;
-              valid = rw table-is (sound-valid (length s) 1 trees (trip .sound-is));
+              valid = rw table-is (parented-valid (length s) (flat trees) (sound-valid (length s) 1 trees (trip .sound-is)));
+              told = rw table-is (parented-told (flat trees));
               none-cut = omega (arith, laid-length (messageRecords D s));
               short = omega arith;
               fits = omega arith;

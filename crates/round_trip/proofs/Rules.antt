@@ -1,15 +1,18 @@
 -- `keeps` asks the rules one by one, so it is true exactly where each rule holds. A greater depth may be allowed, and any that
--- the record keeps to. `keepers` counts up to the first record that breaks a rule, so it counts them all exactly where the table is valid.
+-- the record keeps to. `keepers` counts up to the first record that breaks a rule, so it counts them all exactly where the table is valid
+-- and its records have the parents that its depths tell.
 use Prim.Native.Nat.{ℕ, suc, _+_, _≤_}
-use mathlib.Core.Path.{_≡_, refl, ap}
+use mathlib.Core.Path.{_≡_, refl, ap, ap₂}
 use mathlib.Core.Bool.{true, false, _&&_}
 use mathlib.Core.Logic.{_↔_, inl, inr}
 use mathlib.Core.List.{List, [], _∷_}
 use native.Mathlib.Omega.{arith}
 use lib.Dec.{eqb}
-use lib.ListN.{length}
+use lib.ListN.{length, getD, drop}
+use borrow.Author.Tests.{eq-eqb}
 use Rattle.record.specs.Record.{Record}
-use Rattle.rfc6733.specs.Writer.{isGroup, keeps, keepsLeaf, allowedAfter, keepers}
+use Rattle.record.specs.Parents.{parentAt, parents, depths, ownParents}
+use Rattle.rfc6733.specs.Writer.{isGroup, keeps, keepsLeaf, keepsParent, allowedAfter, keepers}
 use Rattle.refusal.proofs.Tests.{decide, eq-is, and-is, tests}
 use Rattle.round_trip.specs.Rules.{Unpadded, Leaf, Good, Valid}
 
@@ -49,23 +52,36 @@ after-leaf r e = rw e
 
 -- ---- a table
 
-pub keepers-most : (allowed n : ℕ) (rs : List Record) → keepers allowed n rs ≤ length rs
-keepers-most allowed n [] = omega arith
-keepers-most allowed n (r ∷ rs) =
-    let h = keepers-most (allowedAfter r) n rs in
-    elim (decide (keeps allowed n r)) [ inl e ↦ rw e (omega arith) | inr e ↦ rw e (omega arith) ]
+pub keepers-most : (earlier : List ℕ) (allowed n : ℕ) (rs : List Record) → keepers earlier allowed n rs ≤ length rs
+keepers-most earlier allowed n [] = omega arith
+keepers-most earlier allowed n (r ∷ rs) =
+    let h = keepers-most (r .depth ∷ earlier) (allowedAfter r) n rs in
+    elim (decide (keeps allowed n r && keepsParent earlier r)) [ inl e ↦ rw e (omega arith) | inr e ↦ rw e (omega arith) ]
 
-pub keepers-valid : (allowed n : ℕ) (rs : List Record) → keepers allowed n rs ≡ length rs → Valid allowed n rs
-keepers-valid allowed n [] e = tt
-keepers-valid allowed n (r ∷ rs) e =
-    elim (decide (keeps allowed n r)) [
-      | inl k ↦ let f = rw k at e in (k, keepers-valid (allowedAfter r) n rs (omega arith))
+-- the records have the parents that the depths tell, after earlier ones
+abbrev pub Told : List ℕ → List Record → Type 0
+Told earlier rs = ownParents rs ≡ parents earlier (depths rs)
+
+pub keepers-valid : (earlier : List ℕ) (allowed n : ℕ) (rs : List Record) → keepers earlier allowed n rs ≡ length rs
+    → Valid allowed n rs × Told earlier rs
+keepers-valid earlier allowed n [] e = (tt, refl)
+keepers-valid earlier allowed n (r ∷ rs) e =
+    elim (decide (keeps allowed n r && keepsParent earlier r)) [
+      | inl k ↦
+          let f = rw k at e in
+          let (own, parent) = simp (eq-is, and-is) at k in
+          let (v, told) = keepers-valid (r .depth ∷ earlier) (allowedAfter r) n rs (omega arith) in
+          ((own, v), ap₂ {C = List ℕ} (λ p ps. p ∷ ps) parent told)
       | inr k ↦ let f = rw k at e in absurd (omega arith)
     ]
 
-pub valid-keepers : (allowed n : ℕ) (rs : List Record) → Valid allowed n rs → keepers allowed n rs ≡ length rs
-valid-keepers allowed n [] v = refl
-valid-keepers allowed n (r ∷ rs) v = rw (v .0) (ap suc (valid-keepers (allowedAfter r) n rs (v .1)))
+pub valid-keepers : (earlier : List ℕ) (allowed n : ℕ) (rs : List Record) → Valid allowed n rs → Told earlier rs
+    → keepers earlier allowed n rs ≡ length rs
+valid-keepers earlier allowed n [] v told = refl
+valid-keepers earlier allowed n (r ∷ rs) v told =
+    let parent : r .parent ≡ parentAt earlier (r .depth) = ap (λ (ps : List ℕ). getD ps 0 0) told in
+    let others : Told (r .depth ∷ earlier) rs = ap (drop 1) told in
+    rw (v .0, eq-eqb _ _ parent) (ap suc (valid-keepers (r .depth ∷ earlier) (allowedAfter r) n rs (v .1) others))
 
 pub valid-up : (allowed other n : ℕ) (rs : List Record) → allowed ≤ other → Valid allowed n rs → Valid other n rs
 valid-up allowed other n [] h v = v

@@ -14,9 +14,15 @@ use Rattle.rfc6733.specs.Avp.{flags, headSize, payload, complete, Exact}
 use Rattle.record.specs.Value.{Value}
 use Rattle.rfc6733.specs.Dictionary.{Dictionary}
 use Rattle.rfc6733.specs.Records.{valueOf, groupValue, avps, errors, records}
+use Rattle.rfc6733.specs.Decoder.{runRecords}
+use Rattle.rfc6733.proofs.Groups.{told-fit}
+use Rattle.rfc6733.proofs.RunRecords.{count-tried}
+use Rattle.rfc6733.proofs.Tried.{tried-length}
 use Rattle.record.specs.Forest as table
 use Rattle.record.specs.Forest.{none, flat}
 use Rattle.record.specs.Table.{bare, AllFit}
+use Rattle.record.specs.Parents.{toldParents, parented}
+use Rattle.record.proofs.Parents.{with-fit}
 use Rattle.rfc6733.proofs.Alone.{item-exact}
 use Rattle.rfc6733.proofs.Complete.{exact-sizes}
 use Rattle.rfc6733.proofs.Items.{sound, payload-length, bytes-payload}
@@ -45,9 +51,18 @@ flat-records D place depth (group a inner rest) =
     ]
 
 -- so they fit a table where the forest does
-pub records-fit-as : {pool : List ℕ} (D : Dictionary) (place depth : ℕ) (s : List ℕ) (t : Tree) → Trip pool depth s (forestOf D place depth t)
+records-fit-as : {pool : List ℕ} (D : Dictionary) (place depth : ℕ) (s : List ℕ) (t : Tree) → Trip pool depth s (forestOf D place depth t)
     → AllFit (records D place depth t)
 records-fit-as D place depth s t trip = fit-bare (records D place depth t) (rw (flat-records D place depth t) (trip .fits))
+
+-- with their parents too, since a record is a header that was tried, and each of those takes a byte at least
+pub run-fits : {pool : List ℕ} (D : Dictionary) (place : ℕ) (s : List ℕ) → Trip pool 1 s (forestOf D place 1 (tree (avps D) s))
+    → length s < 256 ^ 4 → AllFit (runRecords D place s)
+unfolding runRecords parented
+run-fits D place s trip short =
+    let t = tree (avps D) s in
+    let few = told-fit D place t (omega (arith, count-tried t, tried-length D s)) in
+    with-fit (toldParents (records D place 1 t)) (records D place 1 t) few (records-fit-as D place 1 s t trip)
 
 -- ---- the round trip
 

@@ -6,7 +6,7 @@ use mathlib.Core.Logic.{inl, inr}
 use mathlib.Core.List.{List}
 use native.Mathlib.Omega.{arith}
 use Rattle.octets.specs.Octets.{Bytes}
-use Rattle.octets.specs.Run.{item, Tree, tree, tiles}
+use Rattle.octets.specs.Run.{item, Tree, tiles}
 use Rattle.octets.proofs.Numbers.{be-small}
 use Rattle.refusal.specs.Answer.{accepted}
 use Rattle.rfc6733.specs.Header.{headerSize, messageLength}
@@ -15,7 +15,7 @@ use Rattle.record.specs.Value.{Value}
 use Rattle.rfc6733.specs.Dictionary.{Dictionary, sawp}
 use Rattle.record.specs.Table.{Every}
 use Rattle.record.proofs.Back.{Valued, Whole}
-use Rattle.rfc6733.specs.Records.{avps, ownErrors, valueOf, groupValue, recordOf, records}
+use Rattle.rfc6733.specs.Records.{avps, ownErrors, valueOf, groupValue, recordOf}
 use Rattle.rfc6733.specs.Decoder.{Message, runRecords, messageBody, messageRecords, decoded, aloneRecords, avpAlone}
 use Rattle.record.specs.Counts.{Counts}
 use Rattle.flags.proofs.Joins.{join-small}
@@ -28,8 +28,8 @@ use Rattle.refusal.proofs.Tests.{decide}
 use Rattle.round_trip.specs.Trip.{Lawful}
 use Rattle.octets.proofs.Held.{bytes-item, Holds, holds-here}
 use Rattle.round_trip.proofs.LeafKinds.{sawp-lawful}
-use Rattle.round_trip.proofs.RunTrip.{records-fit-as, trips}
-use Rattle.round_trip.proofs.EveryRecord.{Stands, every}
+use Rattle.round_trip.proofs.RunTrip.{run-fits, trips}
+use Rattle.round_trip.proofs.EveryRecord.{Stands, every-run}
 use Rattle.round_trip.proofs.RoundTrip.{records-fit}
 
 -- ---- the records of a message
@@ -53,19 +53,20 @@ module _ (D : Dictionary) (address-small : (s : List ℕ) → Small s (D .asAddr
         | inr e ↦ rw e (record { below = omega arith; fits = λ bytes few. omega arith })
       ]
 
-  run-valued : Bytes pool → (s : List ℕ) (place depth : ℕ) → Holds pool place s → Every Valued (records D place depth (tree (avps D) s))
+  run-valued : Bytes pool → (s : List ℕ) (place : ℕ) → Holds pool place s → Every Valued (runRecords D place s)
   run-valued bytes =
-      every D pool Valued bytes
+      every-run D pool Valued bytes
       (λ place depth a st e. one-valued place depth a (valueOf D a) st (value-small D address-small a))
       (λ place depth a inner st e. one-valued place depth a (groupValue D inner) st (group-small (payload a) inner))
+      (λ p r v. record { errors-fit = v .errors-fit; value-fits = v .value-fits })
 
 pub whole : (D : Dictionary) → Lawful D → ((s : List ℕ) → Small s (D .asAddress s)) → (limit room : ℕ) (s : List ℕ) (m : Message) → Bytes s
     → decoded D limit room s ≡ accepted m → Whole (messageRecords D s)
-unfolding messageRecords runRecords messageBody
+unfolding messageRecords messageBody
 whole D lawful address-small limit room s m b e =
     record {
       fits = records-fit D lawful limit room s m b e;
-      valued = run-valued D address-small s b (messageBody s) headerSize 1 (holds-here s headerSize (messageLength s - headerSize));
+      valued = run-valued D address-small s b (messageBody s) headerSize (holds-here s headerSize (messageLength s - headerSize));
     }
 
 pub sawp-whole : (limit room : ℕ) (s : List ℕ) (m : Message) → Bytes s → decoded sawp limit room s ≡ accepted m → Whole (messageRecords sawp s)
@@ -76,7 +77,7 @@ sawp-whole = whole sawp sawp-lawful bare-small
 
 pub alone-whole : (D : Dictionary) → Lawful D → ((s : List ℕ) → Small s (D .asAddress s)) → (limit room : ℕ) (s : List ℕ) (c : Counts) → Bytes s
     → avpAlone D limit room s ≡ accepted c → Whole (aloneRecords D s)
-unfolding aloneRecords runRecords item
+unfolding aloneRecords item
 alone-whole D lawful address-small limit room s c b e =
     let acc = when-alone D limit room s c e in
     let a = item (avps D) s in
@@ -86,4 +87,7 @@ alone-whole D lawful address-small limit room s c b e =
     let few = be-small 3 a 5 own in
     let held = holds-here s 0 (avpSize s) in
     let trip = trips s D lawful a 0 1 (omega arith) (omega (arith, acc .shallow, acc .limit-high)) own (omega (arith, exact .size-is, sizes .1)) held (exact-tiles D a exact) in
-    record { fits = records-fit-as D 0 1 a (tree (avps D) a) trip; valued = run-valued D address-small s b a 0 1 held }
+    record {
+      fits = run-fits D 0 a trip (omega (arith, exact .size-is, sizes .1));
+      valued = run-valued D address-small s b a 0 held;
+    }

@@ -12,6 +12,7 @@ use Rattle.refusal.specs.declared.Refusal.the-variants.{BadHeader, BadTable, To
 use Rattle.record.specs.Record.{recordSize}
 use Rattle.rfc6733.specs.Writer.{Fields, keepers, tableBytes, most24, written}
 use Rattle.record.specs.Table.{tableOf}
+use Rattle.record.specs.Parents.{ownParents, toldParents}
 use Rattle.refusal.proofs.Answers.{passed, accepts}
 use Rattle.refusal.proofs.Tests.{eq-is, tests}
 use Rattle.round_trip.specs.Rules.{Valid}
@@ -21,13 +22,14 @@ use Rattle.record.proofs.Tables.{table-length}
 pub record Writable (f : Fields) (table pool : List ℕ) (room : ℕ) : Type 0 where
   pub code-fits : f .code ≤ most24
   pub valid : Valid 1 (length pool) (tableOf table)
+  pub told : ownParents (tableOf table) ≡ toldParents (tableOf table)
   pub none-cut : length table % recordSize ≡ 0
   pub short : length (tableBytes f table pool) ≤ most24
   pub fits : length (tableBytes f table pool) ≤ room
 
 module _ (f : Fields) (table pool : List ℕ) (room : ℕ) where
   abbrev kept : ℕ
-  kept = keepers 1 (length pool) (tableOf table)
+  kept = keepers [] 1 (length pool) (tableOf table)
 
   abbrev total : ℕ
   total = length (tableBytes f table pool)
@@ -43,7 +45,7 @@ module _ (f : Fields) (table pool : List ℕ) (room : ℕ) where
   pub writable-written : Writable f table pool room → written f table pool room ≡ accepted total
   unfolding written
   writable-written w =
-      let all = valid-keepers 1 (length pool) (tableOf table) (w .valid) in
+      let all = valid-keepers [] 1 (length pool) (tableOf table) (w .valid) (w .told) in
       let n = table-length table in
       accepts refusals total (simp (eq-is, tests) (search arith))
 
@@ -52,6 +54,6 @@ module _ (f : Fields) (table pool : List ℕ) (room : ℕ) where
   written-writable n e =
       let p = passed refusals total n e in
       let h = simp (eq-is, tests) at (p .0) in
-      let most = keepers-most 1 (length pool) (tableOf table) in
-      let valid = keepers-valid 1 (length pool) (tableOf table) (omega (arith, table-length table)) in
+      let most = keepers-most [] 1 (length pool) (tableOf table) in
+      let valid = keepers-valid [] 1 (length pool) (tableOf table) (omega (arith, table-length table)) in
       search

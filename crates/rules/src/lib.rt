@@ -6,6 +6,7 @@ use record::kinds::GROUPED;
 use record::kinds::TIME;
 ghost use mathlib.Core.Path.{_≡_};
 ghost use mathlib.Core.Bool.{_&&_, _||_};
+ghost use mathlib.Core.List.{[]};
 ghost use Prim.Native.Nat.{_-_, _%_, _^_, _≤_};
 ghost use lib.Dec.{eqb};
 ghost use Rattle.flags.specs.Flags.{bit};
@@ -108,12 +109,14 @@ fn allowed_after(r: Record) -> u8
     r.depth
 }
 
-/// How many records keep the rules before the first that breaks one.
+/// How many records keep the rules before the first that breaks one. `last` has the index of the last record of each depth, so that a
+/// parent is found without walking back.
 pub fn keepers(table: &[u8], available: usize) -> usize
-    ensures { λ n. ⌜ n ≡ keepers 1 available (tableOf (now (table .entry))) ⌝ }
+    ensures { λ n. ⌜ n ≡ keepers [] 1 available (tableOf (now (table .entry))) ⌝ }
 {
     let mut kept: usize = 0;
     let mut allowed: u8 = 1;
+    let mut last = [Record::TOP_LEVEL as usize; AVP::MOST_DEPTH + 1];
     while kept < table.len() / Record::SIZE {
         let r = Record::get(&table[kept * Record::SIZE..]);
         if allowed < r.depth {
@@ -122,6 +125,11 @@ pub fn keepers(table: &[u8], available: usize) -> usize
         if !keeps(r, available) {
             return kept;
         }
+        let depth = r.depth as usize;
+        if r.parent as usize != last[depth - 1] {
+            return kept;
+        }
+        last[depth] = kept;
         allowed = allowed_after(r);
         kept += 1;
     }

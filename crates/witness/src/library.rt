@@ -13,10 +13,10 @@ const BROKEN: [u8; 37] =
 
 // Its record.
 const TABLE: [u8; Record::SIZE] =
-    *b"\0\0\x01\x0C\0\0\0\x0D\0\0\0\0\0\0\0\x1C\x01\x04\x02\x03\0\0\0\0\0\0\0\0\0\0\x07\xD1";
+    *b"\0\0\x01\x0C\0\0\0\x0D\0\0\0\0\0\0\0\x1C\x01\x04\x02\x03\0\0\0\0\0\0\0\0\0\0\x07\xD1\xFF\xFF\xFF\xFF";
 
 // Room for the record, with some bytes past it.
-const STORE: usize = 37;
+const STORE: usize = 41;
 
 // What lent memory holds before a call.
 const LENT: u8 = 0xA5;

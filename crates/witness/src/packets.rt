@@ -11,7 +11,7 @@ const AUTHENTICATOR: [u8; 16] =
 
 // The record of the first attribute.
 const TABLE: [u8; Record::SIZE] =
-    *b"\0\0\0\x2C\0\0\0\x04\0\0\0\0\0\0\0\x16\x01\x0A\0\0\0\0\0\0\0\0\0\0\0\0\0\0";
+    *b"\0\0\0\x2C\0\0\0\x04\0\0\0\0\0\0\0\x16\x01\x0A\0\0\0\0\0\0\0\0\0\0\0\0\0\0\xFF\xFF\xFF\xFF";
 
 // What lent memory holds before a call.
 const LENT: u8 = 0xA5;
@@ -54,8 +54,8 @@ fn write(out: &mut [u8]) {
 
 // The store and the output hold the packet, and then they don't.
 pub(super) fn lines() {
-    read(&mut [LENT; 69]);
-    read(&mut [LENT; 63]);
+    read(&mut [LENT; 77]);
+    read(&mut [LENT; 71]);
     write(&mut [LENT; 30]);
     write(&mut [LENT; 23]);
 }

@@ -2,7 +2,7 @@
 -- its header before them.
 use Prim.Native.Nat.{ℕ, _+_, _-_, _/_, _%_, _≤_, _<_}
 use mathlib.Core.Path.{_≡_, refl, sym, ap, _∙_}
-use mathlib.Core.List.{List, _++_}
+use mathlib.Core.List.{List, [], _++_}
 use native.Mathlib.Omega.{arith}
 use lib.ListN.{length, take, drop}
 use borrow.Rule.Slice.PartMut.{putMid}
@@ -19,7 +19,7 @@ use Rattle.record.specs.Table.{tableOf}
 use Rattle.round_trip.specs.Forests.{size}
 use Rattle.round_trip.specs.Rules.{Valid, Kept}
 use Rattle.round_trip.specs.Tables.{run}
-use Rattle.round_trip.proofs.Rules.{keepers-valid, keepers-most}
+use Rattle.round_trip.proofs.Rules.{Told, keepers-valid, keepers-most}
 use Rattle.round_trip.proofs.Kept.{valid-kept}
 use Rattle.round_trip.proofs.Lengths.{long, total-size}
 use Rattle.record.proofs.Tables.{table-length}
@@ -51,12 +51,15 @@ total f table pool v =
 
 -- ---- a table that keeps the rules
 
-module _ (table pool : List ℕ) (k : ℕ) (kept : k ≡ keepers 1 (length pool) (tableOf table)) (all : length table / recordSize ≤ k) where
+module _ (table pool : List ℕ) (k : ℕ) (kept : k ≡ keepers [] 1 (length pool) (tableOf table)) (all : length table / recordSize ≤ k) where
   as-many : k ≡ length table / recordSize
-  as-many = omega (arith, keepers-most 1 (length pool) (tableOf table), table-length table)
+  as-many = omega (arith, keepers-most [] 1 (length pool) (tableOf table), table-length table)
+
+  all-kept : Valid 1 (length pool) (tableOf table) × Told [] (tableOf table)
+  all-kept = keepers-valid [] 1 (length pool) (tableOf table) (sym kept ∙ as-many ∙ sym (table-length table))
 
   pub all-valid : Valid 1 (length pool) (tableOf table)
-  all-valid = keepers-valid 1 (length pool) (tableOf table) (sym kept ∙ as-many ∙ sym (table-length table))
+  all-valid = all-kept .0
 
 -- ---- the answers
 
@@ -65,7 +68,7 @@ module _ (f : Fields) (table pool : List ℕ) (room : ℕ) where
   unfolding written
   bad-header h = simp (lt-ltb most24 (f .code) h)
 
-  module _ (code-fits : f .code ≤ most24) (k : ℕ) (kept : k ≡ keepers 1 (length pool) (tableOf table)) where
+  module _ (code-fits : f .code ≤ most24) (k : ℕ) (kept : k ≡ keepers [] 1 (length pool) (tableOf table)) where
     pub bad-record : k < length table / recordSize → refused (BadTable k) ≡ written f table pool room
     unfolding written
     bad-record h = rw (le-ltb most24 (f .code) code-fits, ← kept, lt-ltb k (length table / recordSize) h)
@@ -116,9 +119,10 @@ module _ (f : Fields) (table pool : List ℕ) (room : ℕ) where
           pub fits : n ≤ room → accepted n ≡ written f table pool room
           fits h =
               let t = total f table pool valid in
+              let told = all-kept table pool k kept all .1 in
               ap accepted (n-is ∙ sym (t .is))
               ∙ sym (writable-written f table pool room
-              (record { code-fits = code-fits; valid = valid; none-cut = none-cut; short = omega arith; fits = omega arith }))
+              (record { code-fits = code-fits; valid = valid; told = told; none-cut = none-cut; short = omega arith; fits = omega arith }))
 
 -- ---- the message
 

@@ -1,12 +1,15 @@
 -- `fill_store` meets its contract: the run is read, and what its records leave of the store is cleared, so the store holds the records and zero
--- to its last byte.
+-- to its last byte. The first of them is the first of all, so their parents are those that their depths tell.
 use native.Mathlib.Omega.{arith}
 use denote.Ref.{now}
 use borrow.Author.Needs.{needs}
 use Rattle.octets.specs.Run.{tree}
 use Rattle.record.proofs.Cleared.{cleared}
 use Rattle.record.specs.Record.{laid}
-use Rattle.rfc6733.specs.Records.{avps, records}
+use Rattle.record.specs.Parents.{topLevel}
+use Rattle.rfc6733.specs.Records.{avps}
+use Rattle.rfc6733.specs.Groups.{memberRecords}
+use Rattle.rfc6733.proofs.Groups.{parented-members}
 use Rattle.attribute.specs.ByTable.{dictionaryBy}
 use Rattle.avps.proofs.Filling.{records-length}
 use Rattle.avps.proofs.fill_store.Statement.{statement}
@@ -19,12 +22,13 @@ returns c =
     let D = dictionaryBy (b .args .d) (now (b .args .kinds)) in
     let t = tree (avps D) (now (b .args .s)) in
     let w = read .read-run .ensures in
-    let size = records-length D (b .args .place) 1 t in
+    let size = records-length D (b .args .place) 1 topLevel 0 t in
     let room = b .pre .1 in
     record {
       errors-are = w .errors-are;
       store-is =
-          cleared (laid (records D (b .args .place) 1 t)) (now (b .args .store)) _ _ _ (omega arith) (omega arith) (w .store-is) (c .before .before .clear .ensures);
+          rw (parented-members D (b .args .place) t)
+          (cleared (laid (memberRecords D (b .args .place) 1 topLevel 0 t)) (now (b .args .store)) _ _ _ (omega arith) (omega arith) (w .store-is) (c .before .before .clear .ensures));
     }
 
 pub fill-store-spec : {M : Type 1} → statement M

@@ -55,6 +55,7 @@ fill-store-requires c κs =
       record {
         records-fit = omega (arith, k .records-is, fit .if2 .left);
         places-fit = near (fit .before .before .before .before .before);
+        indices-fit = omega arith;
         depths-fit = omega (arith, k .shallow);
         levels-fit = omega arith;
       },

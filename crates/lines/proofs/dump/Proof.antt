@@ -37,14 +37,15 @@ answered : (c : tie.After-m) → let p = c .before .before .before in decoded sa
 unfolding answerOf dictionary
 answered c = sym (c .before .before .before .parse .ensures .0) ∙ ap answerOf (c .m .given .1)
 
+-- the store has 36,864 bytes, for 1,024 records
 table-is : (c : tie.After-m)
     → let p = c .before .before .before in
     let rs = messageRecords sawp (front p) in
-    p .parse .last .1 .1 .1 .0 ≡ laid rs ++ replicate (32768 - length (laid rs)) 0
+    p .parse .last .1 .1 .1 .0 ≡ laid rs ++ replicate (36864 - length (laid rs)) 0
 unfolding answerOf dictionary stored
 table-is c =
     let p = c .before .before .before in
-    p .parse .ensures .1 ∙ ap (λ (x : Decoded). stored (answerOf x) (messageRecords sawp (front p)) (replicate 32768 0)) (c .m .given .1)
+    p .parse .ensures .1 ∙ ap (λ (x : Decoded). stored (answerOf x) (messageRecords sawp (front p)) (replicate 36864 0)) (c .m .given .1)
 
 message-text : (c : tie.After-m)
     → let p = c .before .before .before in

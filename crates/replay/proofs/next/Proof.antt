@@ -9,13 +9,13 @@ slice-aggregate-exchange : tie.Need-slice-aggregate-exchange
 slice-aggregate-exchange c =
     let sized = c .before .before .before .before in
     let buffer = sized .before .before in
-    omega (arith, length-take (sized .input-size .result) (buffer .large-buffer .result), buffer .large-buffer .ensures)
+    omega (arith, length-take (sized .input-size .result) (buffer .zeros .result), buffer .zeros .ensures)
 
 slice-aggregate-exchange-2 : tie.Need-slice-aggregate-exchange-2
 slice-aggregate-exchange-2 c =
     let sized = c .before .before .before .before in
     let buffer = sized .before .before in
-    omega (arith, length-take (sized .store-size .result) (buffer .large-buffer2 .result), buffer .large-buffer2 .ensures)
+    omega (arith, length-take (sized .store-size .result) (buffer .zeros2 .result), buffer .zeros2 .ensures)
 
 pub next-spec : {M : Type 1} → statement M
 next-spec =

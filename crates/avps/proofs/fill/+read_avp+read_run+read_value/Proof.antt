@@ -4,7 +4,7 @@
 use native.Mathlib.Omega.{arith}
 use borrow.Author.Needs.{needs}
 use Rattle.count.proofs.Lent.{own}
-use Rattle.avps.proofs.Filling.{nothing-filled, all-filled, one-filled}
+use Rattle.avps.proofs.Filling.{nothing-filled, one-filled}
 use Rattle.avps.proofs.fill.read_run.Reads as run-reads
 use Rattle.avps.proofs.fill.read_avp.Reads as avp-reads
 use Rattle.avps.proofs.fill.read_value.Reads as value-reads
@@ -37,6 +37,7 @@ pub +read-avp+read-run+read-value-spec : {M : Type 1} → statement M
     (λ c. omega (arith, avp-opened t c))
     (λ c. omega (arith, avp-opened t c))
     (λ c. omega (arith, avp-opened t (c .before), avp-start t (c .before) .pre .1 .1))
+    (λ c. omega (arith, avp-start t (c .before) .pre .1 .1))
     (λ c. omega (arith, avp-room t (c .before)))
     (λ c. omega (arith, avp-room t (c .before)))
     (λ c. search needs)
@@ -47,7 +48,7 @@ pub +read-avp+read-run+read-value-spec : {M : Type 1} → statement M
     (λ c κs. tt)
     (λ c κs. tt)
     (λ c κs. tt)
-    (of-avp.cast-t27 t)
+    (of-avp.cast-t30 t)
     (λ c. let h = avp-from-join t c in omega (arith, avp-opened t h, avp-start t h .pre .1 .1))
     (λ c. let h = avp-from-join t c in omega (arith, avp-opened t h, avp-start t h .pre .1 .1))
     (λ c. search needs)
@@ -63,7 +64,8 @@ pub +read-avp+read-run+read-value-spec : {M : Type 1} → statement M
     (of-avp.returns t))
     (λ t.
     run.spec (run-calls t) (run-at t) run-reads.Post Inv-loop μ-loop
-    (λ c. (omega arith, nothing-filled))
+    (λ c κs. omega (arith, c .before .before .before .pre .1 .1))
+    (λ c. (omega arith, nothing-filled (c .before .before .before .before .pre .1 .1 .indices-fit)))
     (λ c. search needs)
     (λ c. search needs)
     (λ c. search needs)
@@ -77,6 +79,7 @@ pub +read-avp+read-run+read-value-spec : {M : Type 1} → statement M
     (λ c. omega (arith, run-turn t c))
     (λ c. omega (arith, run-turn t c))
     (λ c. omega (arith, run-start t (run-loop t (c .before)) .pre .1 .1))
+    (λ c. let l = run-loop t (c .before) in omega (arith, run-start t l .pre .1 .1, l .loop .inv .1))
     (λ c. omega (arith, run-within t (run-loop t (c .before))))
     (λ c. omega (arith, run-within t (run-loop t (c .before))))
     (λ c. omega (arith, run-within t (run-loop t (c .before))))
@@ -97,7 +100,7 @@ pub +read-avp+read-run+read-value-spec : {M : Type 1} → statement M
     let u = run-turn t k in
     (u .fits, rw (c .join .ensures) (one-filled (run-start t l .pre .1 .1) (l .loop .inv .1) (own _ u) (r .read-avp .ensures))))
     (λ c. search needs)
-    (λ c. all-filled _ _ (c .before .loop .inv .1) (c .loop-test .left)))
+    (of-run.returns-2 t))
     (λ t.
     value.spec (value-calls t) (value-at t) value-reads.Post
     (λ c κs. tt)

@@ -3,7 +3,7 @@ use mathlib.Core.Path.{_∙_}
 use borrow.Author.Needs.{needs}
 use denote.Ref.{now}
 use native.Mathlib.Omega.{arith}
-use Rattle.front.proofs.Words.{turned-are, word-is}
+use Rattle.octets.proofs.Words.{turned-are, word-is}
 use Rattle.front.proofs.word.be_u32.Statement.{statement}
 use Rattle.front.proofs.word.be_u32.Tie as tie
 

@@ -1,10 +1,10 @@
 -- `is_fixed` meets its contract: its tests are the rules of the definition, in their order. One that is broken makes their conjunction
--- false, and where four are kept, it is the fifth.
+-- false, and where five are kept, it is the sixth.
 use mathlib.Core.Bool.{and-false}
 use native.Mathlib.Omega.{arith}
 use borrow.Author.Tests.{ne-eqb}
 use Rattle.radius_writer.specs.Rules.{isFixed}
-use Rattle.radius_writer.proofs.Keeping.{then-pads}
+use Rattle.radius_writer.proofs.Keeping.{then-parent}
 use Rattle.radius_writer.proofs.rules.is_fixed.Statement.{statement}
 use Rattle.radius_writer.proofs.rules.is_fixed.Tie as tie
 
@@ -25,9 +25,13 @@ unfolding isFixed
 returns-4 c = simp (ne-eqb (c .before .before .before .before .before .before .before .before .args .r .padding) 0 (λ e. omega arith), and-false)
 
 returns-5 : tie.Need-returns-5
-returns-5 c =
-    let r = c .before .before .before .before .before .before .before .before .before .args .r in
-    then-pads r (omega arith) (omega arith) (omega arith) (omega arith)
+unfolding isFixed
+returns-5 c = simp (ne-eqb (c .before .before .before .before .before .before .before .before .before .before .args .r .pads) 0 (λ e. omega arith), and-false)
+
+returns-6 : tie.Need-returns-6
+returns-6 c =
+    let r = c .before .before .before .before .before .before .before .before .before .before .before .args .r in
+    then-parent r (omega arith) (omega arith) (omega arith) (omega arith) (omega arith)
 
 pub is-fixed-spec : {M : Type 1} → statement M
-is-fixed-spec = tie.close (tie.spec returns returns-2 returns-3 returns-4 returns-5)
+is-fixed-spec = tie.close (tie.spec returns returns-2 returns-3 returns-4 returns-5 returns-6)

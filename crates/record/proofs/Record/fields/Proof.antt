@@ -1,5 +1,9 @@
--- `fields` meets its contract: each field is read at its place in the 32 bytes, and `fields-are` says that these are the definition's.
-use mathlib.Core.Path.{refl}
+-- `fields` meets its contract: each field is read from a word at its place in the 36 bytes, and `fields-are` says that these are the
+-- definition's.
+use Prim.Native.Nat.{ℕ, _/_, _%_}
+use mathlib.Core.Path.{refl, ap}
+use borrow.Author.Needs.{needs}
+use denote.Ref.{now}
 use native.Mathlib.Omega.{arith}
 use Rattle.record.proofs.Fields.{fields-are}
 use Rattle.record.proofs.Record.fields.Statement.{statement}
@@ -7,41 +11,29 @@ use Rattle.record.proofs.Record.fields.Tie as tie
 
 returns : tie.Need-returns
 returns c =
-    let place = c .before .before .before .before .before .before .before in
-    let vendor = place .before .before .before .before .before in
-    let length = vendor .before .before .before .before .before in
-    let code = length .before .before .before .before .before in
-    fields-are _ _ (code .be-u32 .ensures) refl (length .be-u24 .ensures) (vendor .be-u322 .ensures) (place .be-u323 .ensures) refl refl refl refl (c .be-u242 .ensures) refl
+    let known = c .before in
+    let place = known .before .before .before in
+    let vendor = place .before in
+    let code = vendor .before in
+    let pads = code .before in
+    let flags = pads .before in
+    let table = now (flags .before .before .args .table) in
+    let are = fields-are table (λ i. omega (arith, known .shared-slice-known4 .given i)) _ in
+    let first = are (code .be-u323 .ensures) (ap (λ (w : ℕ). w / 0x1000000) (flags .be-u32 .ensures)) (ap (λ (w : ℕ). w % 0x1000000) (flags .be-u32 .ensures)) in
+    first (vendor .be-u324 .ensures) (place .be-u325 .ensures) refl refl refl refl (ap (λ (w : ℕ). w / 256) (pads .be-u322 .ensures)) refl (c .be-u326 .ensures)
 
 pub fields-spec : {M : Type 1} → statement M
 fields-spec =
     tie.close
     (tie.spec
-    (λ c. omega arith)
-    (λ c. omega arith)
-    (λ c. omega arith)
-    (λ c. omega arith)
-    (λ c κs. tt)
-    (λ c. omega arith)
-    (λ c. omega arith)
-    (λ c. omega arith)
-    (λ c. omega arith)
-    (λ c κs. tt)
-    (λ c. omega arith)
-    (λ c. omega arith)
-    (λ c. omega arith)
-    (λ c. omega arith)
-    (λ c κs. tt)
-    (λ c. omega arith)
-    (λ c. omega arith)
-    (λ c. omega arith)
-    (λ c. omega arith)
-    (λ c κs. tt)
-    (λ c. omega arith)
-    (λ c. omega arith)
-    (λ c. omega arith)
-    (λ c. omega arith)
-    (λ c. omega arith)
-    (λ c. omega arith)
-    (λ c κs. tt)
+    (λ c κs. search needs)
+    (λ c κs. search needs)
+    (λ c κs. search needs)
+    (λ c. search needs)
+    (λ c κs. search needs)
+    (λ c κs. search needs)
+    (λ c. search needs)
+    (λ c. search needs)
+    (λ c. search needs)
+    (λ c κs. search needs)
     returns)

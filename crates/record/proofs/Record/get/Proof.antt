@@ -1,4 +1,4 @@
--- `Record::get` meets its contract: with 32 bytes the fields are read as they stand. With fewer they are read from the table over zeros,
+-- `Record::get` meets its contract: with 36 bytes the fields are read as they stand. With fewer they are read from the table over zeros,
 -- and `record-over-zeros` says that those give the same record.
 use mathlib.Core.Path.{ap, _∙_}
 use borrow.Author.Needs.{needs}
@@ -9,7 +9,7 @@ use Rattle.record.proofs.Record.get.Tie as tie
 
 returns : tie.Need-returns
 unfolding entryAt
-returns c = c .fields .ensures ∙ rw (c .before .before .padded .ensures) (ap bare (record-over-zeros _ 32))
+returns c = c .fields .ensures ∙ rw (c .before .before .padded .ensures) (ap bare (record-over-zeros _ 36))
 
 pub get-spec : {M : Type 1} → statement M
 get-spec =

@@ -1,4 +1,4 @@
--- `Record::read` meets its contract: with 32 bytes the fields are read as they stand. With fewer they are read from the table over
+-- `Record::read` meets its contract: with 36 bytes the fields are read as they stand. With fewer they are read from the table over
 -- zeros, and `record-over-zeros` says that those give the same record.
 use mathlib.Core.Path.{_∙_}
 use borrow.Author.Needs.{needs}
@@ -7,7 +7,7 @@ use Rattle.record.proofs.Record.read.Statement.{statement}
 use Rattle.record.proofs.Record.read.Tie as tie
 
 returns : tie.Need-returns
-returns c = c .all-fields .ensures ∙ rw (c .before .before .padded .ensures) (record-over-zeros _ 32)
+returns c = c .all-fields .ensures ∙ rw (c .before .before .padded .ensures) (record-over-zeros _ 36)
 
 pub read-spec : {M : Type 1} → statement M
 read-spec =

@@ -69,8 +69,8 @@ module _ (t : ℕ) where
       let o = avp-opened h in
       (omega (arith, b .pre), (level-for-own _ o x (b .pre .1 .1), room-for-members _ o x (now (b .args .store)) (b .pre .1 .1)))
 
-  pub cast-t27 : avp.Need-cast-t27 (avp-calls t) (avp-at t) avp-reads.Post
-  cast-t27 c =
+  pub cast-t30 : avp.Need-cast-t30 (avp-calls t) (avp-at t) avp-reads.Post
+  cast-t30 c =
       let h = avp-from-join c in
       let k = h .before .before in
       omega (arith, avp-opened h .fields .length-is, be-small 3 (now (avp-start h .args .s)) 5 (λ i. omega (arith, k .shared-slice-known2 .given i)))

@@ -1,4 +1,4 @@
--- `read_run`: a run's records are those of its AVPs, one after the other (`Filling`).
+-- `read_run`: a run's records are those of its AVPs, one after the other and all with the same parent (`Filling`).
 use Prim.Native.Nat.{ℕ, _+_, _-_, _*_, _≤_}
 use mathlib.Core.Path.{sym, _∙_}
 use native.Mathlib.Omega.{arith}
@@ -11,24 +11,35 @@ use Rattle.attribute.specs.ByTable.{dictionaryBy}
 use Rattle.front.proofs.Fronts.{Turn, turn, stuck}
 use Rattle.count.proofs.Lent.{own}
 use Rattle.avps.specs.Fill.{depthAt}
-use Rattle.avps.proofs.Filling.{Filling, never-stuck, room-for-one}
+use Rattle.avps.proofs.Filling.{Filling, never-stuck, all-filled, room-for-one}
 use Rattle.front.proofs.first_avp.Reads as complete
 use Rattle.flags.proofs.join.Reads as join-flags
+use Rattle.avps.proofs.fill.group_before.Reads as group-before
 use Rattle.avps.proofs.fill.read_run.Reads as run-reads
 use Rattle.avps.proofs.fill.read_avp.Reads as avp-reads
 use Rattle.avps.proofs.fill.+read_avp+read_run+read_value.Lts-read_run as run
 use Rattle.avps.proofs.fill.+read_avp+read_run+read_value.Proof.Measures.{run-at, avp-below}
 
 abbrev pub run-calls : ℕ → run.Claims
-run-calls t = (complete.Asked, complete.Learnt, avp-below t, avp-reads.Post, join-flags.Asked, join-flags.Learnt)
+run-calls t = (
+  group-before.Asked,
+  group-before.Learnt,
+  complete.Asked,
+  complete.Learnt,
+  avp-below t,
+  avp-reads.Post,
+  join-flags.Asked,
+  join-flags.Learnt,
+)
 
 abbrev pub Inv-loop : run.InvT-loop
-Inv-loop d kinds s place left store₀ at₀ n₀ errors₀ store at n errors =
+Inv-loop d kinds s place first left store₀ parent at₀ n₀ errors₀ store at n errors =
     let D = dictionaryBy d kinds in
-    (at ≤ length s) × Filling D (tree (avps D) s) (tree (avps D) (drop at s)) place (place + at) (depthAt left) n errors store₀ store
+    (at ≤ length s)
+    × Filling D (tree (avps D) s) (tree (avps D) (drop at s)) place (place + at) (depthAt left) parent first n errors store₀ store
 
 abbrev pub μ-loop : run.MeasureT-loop
-μ-loop d kinds s place left store₀ at₀ n₀ errors₀ store at n errors = length s - at
+μ-loop d kinds s place first left store₀ parent at₀ n₀ errors₀ store at n errors = length s - at
 
 module _ (t : ℕ) where
   -- the head of the loop, and an AVP found there
@@ -42,7 +53,7 @@ module _ (t : ℕ) where
   run-loop c = c .before .before .before .before .before .before .before
 
   abbrev pub run-start : Loop → run.Start (run-calls t) (run-at t) run-reads.Post Inv-loop μ-loop
-  run-start l = l .before .before .before .before
+  run-start l = l .before .before .before .before .before
 
   pub run-turn : (c : Found) → let l = run-loop c in Turn (now (run-start l .args .s)) (l .loop .at) (c .before .before .a .given .0 .0)
   run-turn c = let w = c .before .before in turn _ _ _ (omega arith) (sym (w .a .given .1) ∙ w .before .before .first-avp .ensures)
@@ -66,4 +77,9 @@ module _ (t : ℕ) where
       let l = run-loop k in
       let b = run-start l in
       let o = own (dictionaryBy (b .args .d) (now (b .args .kinds))) (run-turn k) in
-      (omega (arith, b .pre), ((o .is, o .exact), room-for-one (b .pre .1 .1) (l .loop .inv .1) o (run-turn k .fits)))
+      (omega (arith, b .pre), ((o .is, o .exact), room-for-one (b .pre .1 .1) (l .loop .inv .1) o (omega (arith, l .loop .inv .1)) (run-turn k .fits)))
+
+  pub returns-2 : run.Need-returns-2 (run-calls t) (run-at t) run-reads.Post Inv-loop μ-loop
+  returns-2 c =
+      let l = c .before in
+      rw (l .before .group-before .ensures) at (all-filled _ _ (l .loop .inv .1) (c .loop-test .left))

@@ -1,14 +1,14 @@
 -- Four bytes that were read the lowest first and turned round: they are the number of these bytes, the highest first. Writing gives back what
--- was read, so the bytes of the first number are the four, the last first.
+-- was read, so the bytes of the first number are the four, the last first. A part of a word is its quotient or its remainder.
 use Prim.Native.Nat.{ℕ, zero, suc, _+_, _/_, _%_, _<_}
 use mathlib.Core.Path.{_≡_, refl, sym, ap, _∙_}
 use mathlib.Core.List.{List, [], _∷_}
-use native.Mathlib.Nat.{add-zero}
+use native.Mathlib.Nat.{add-zero, add-assoc}
 use native.Mathlib.Omega.{arith}
 use lib.ListN.{getD}
 use Rattle.octets.specs.Octets.{be, octets, Bytes, Reads}
 use Rattle.octets.proofs.Numbers.{written-read, be-same}
-use Rattle.front.specs.Word.{lastFirst}
+use Rattle.octets.specs.Word.{lastFirst}
 
 module _ (s : List ℕ) (at : ℕ) where
   abbrev inOrder : List ℕ
@@ -34,13 +34,25 @@ module _ (s : List ℕ) (at : ℕ) where
   pub word-is : (r : ℕ) → Reads 4 inOrder r → r ≡ be 4 s at
   word-is r h = h .is ∙ be-same 4 inOrder s 0 at in-order-at
 
--- ---- the word of the flags and the length
+-- ---- the parts of a word
 
-module _ (s : List ℕ) (h : Bytes s) where
-  pub high-byte : be 4 s 4 / 0x1000000 ≡ be 1 s 4
-  unfolding be
-  high-byte = omega (arith, h 4, h 5, h 6, h 7)
+module _ (s : List ℕ) (h : Bytes s) (at : ℕ) where
+  abbrev byte : ℕ → ℕ
+  byte i = getD s i 0
 
-  pub low-three : be 4 s 4 % 0x1000000 ≡ be 3 s 5
+  further : (i j : ℕ) → byte (at + i + j) ≡ byte (at + (i + j))
+  further i j = ap byte (add-assoc at i j)
+
+  -- a byte and three bytes
+  pub high-byte : be 4 s at / 0x1000000 ≡ be 1 s at
   unfolding be
-  low-three = omega (arith, h 4, h 5, h 6, h 7)
+  high-byte = omega (arith, h at, h (at + 1), h (at + 2), h (at + 3))
+
+  pub low-three : be 4 s at % 0x1000000 ≡ be 3 s (at + 1)
+  unfolding be
+  low-three = omega (arith, h at, h (at + 1), h (at + 2), h (at + 3), further 1 0, further 1 1, further 1 2)
+
+  -- three bytes and a byte
+  pub high-three : be 4 s at / 256 ≡ be 3 s at
+  unfolding be
+  high-three = omega (arith, h at, h (at + 1), h (at + 2), h (at + 3))
