@@ -22,6 +22,11 @@ static uint64_t get_64(const uint8_t *at) {
     return be64toh(n);
 }
 
+static void put_32(uint8_t *at, uint32_t n) {
+    n = htobe32(n);
+    memcpy(at, &n, sizeof n);
+}
+
 static void put_64(uint8_t *at, uint64_t n) {
     n = htobe64(n);
     memcpy(at, &n, sizeof n);
@@ -115,6 +120,7 @@ static uint8_t put_record(const uint8_t *attribute, size_t place, uint8_t *recor
     put_64(record + TANDREKILY_RECORD_VENDOR, place + HEAD);
     put_64(record + TANDREKILY_RECORD_DEPTH, UINT64_C(1) << 56 | (uint64_t)kind << 48 | (uint64_t)errors << 40);
     put_64(record + TANDREKILY_RECORD_VALUE, value);
+    put_32(record + TANDREKILY_RECORD_PARENT, TANDREKILY_TOP_LEVEL);
     return errors;
 }
 
@@ -167,6 +173,7 @@ static bool keeps(const uint8_t *record, size_t pool_length) {
     uint64_t depth_and_padding = get_64(record + TANDREKILY_RECORD_DEPTH) & 0xFF0000FFFFFFFF00;
     if ((front & 0xFFFFFF00FFFFFF00) != 0 || (front & 0xFF) < HEAD) return false;
     if (depth_and_padding != UINT64_C(1) << 56) return false;
+    if (get_32(record + TANDREKILY_RECORD_PARENT) != TANDREKILY_TOP_LEVEL) return false;
     return vendor_and_place <= UINT32_MAX && vendor_and_place + (front & 0xFF) - HEAD <= pool_length;
 }
 

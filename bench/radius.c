@@ -149,6 +149,7 @@ static size_t any_table(uint8_t *table) {
         record[TANDREKILY_RECORD_PLACE + 2] = (uint8_t)below(15);
         record[TANDREKILY_RECORD_PLACE + 3] = any_byte();
         record[TANDREKILY_RECORD_DEPTH] = 1;
+        memset(record + TANDREKILY_RECORD_PARENT, 0xFF, 4);
     }
     if (records > 0 && below(3) == 0) table[below(records * RECORD)] ^= (uint8_t)(1 << below(8));
     return records * RECORD + (below(16) == 0 ? below(RECORD) : 0);

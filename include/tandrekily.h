@@ -82,7 +82,7 @@ enum tandrekily_error_flag {
 
 // ---- records
 
-// A record has 32 bytes, its numbers are big-endian, and a group stands before its members. These are the places in it. That of an
+// A record has 36 bytes, its numbers are big-endian, and a group stands before its members. These are the places in it. That of an
 // attribute of RADIUS is laid out the same.
 enum tandrekily_record {
     TANDREKILY_RECORD_CODE = 0,     // 4 bytes
@@ -99,8 +99,13 @@ enum tandrekily_record {
     TANDREKILY_RECORD_VALUE = 24,   // 8: a number, an Integer32 or Enumerated as its 32 bits, an Integer64 as its 64, an IPv4
                                     // address; of ill-formed text, which has kind 0, at which byte of the data it broke, as
                                     // `tandrekily_utf8` says; else 0
-    TANDREKILY_RECORD_SIZE = 32
+    TANDREKILY_RECORD_PARENT = 32,  // 4: the index of the record of its group, or TANDREKILY_TOP_LEVEL at depth 1
+    TANDREKILY_RECORD_SIZE = 36
 };
+
+// The parent of a record that is in no group. The parent of any other is the index in the table of the last earlier record that is one
+// depth less.
+#define TANDREKILY_TOP_LEVEL UINT32_C(4294967295)
 
 // The data of a record are its length less one of these, by the vendor bit of its flags.
 enum tandrekily_avp_head {
@@ -130,7 +135,7 @@ enum tandrekily_kind {
 // ---- decoding
 
 // Decodes the message at the front of `input` into records in `store`: as RFC 6733 says where `rfc`, else as the Rust crate
-// sawp-diameter does. The store holds `store_length` / 32 records, and `limit` is the deepest level that may be read.
+// sawp-diameter does. The store holds `store_length` / 36 records, and `limit` is the deepest level that may be read.
 //   accepted: the header, the message's error flags, records, tried, the message's length; the rest of the store is zero
 //   refused, in this order: BAD_DEPTH, INCOMPLETE, NOT_VERSION, INCOMPLETE of 4 bytes, BAD_LENGTH under 4, INCOMPLETE of
 //   the length, BAD_LENGTH under 20, NOT_TILED, TOO_DEEP, NO_RECORDS
@@ -204,7 +209,7 @@ size_t tandrekily_next(const uint8_t *message, size_t message_length, size_t pla
 
 // Writes the message of the records in `table` to the front of `out`. Their places point into `pool`; a decoder's records
 // with its input as the pool give the message again. All lengths are computed, a group's from its members; the record's
-// error flags, byte 23 and value are not read.
+// error flags, byte 23 and value are not read. A parent is not written, but one that the depths do not tell is BAD_TABLE.
 //   accepted: the message's length; the rest of `out` stays as it was
 //   refused, in this order: BAD_HEADER, BAD_TABLE, TOO_LONG, NO_ROOM
 // With an output of length 0 it says how many bytes are needed.
@@ -229,9 +234,9 @@ enum tandrekily_radius_size {
     TANDREKILY_RADIUS_RECORDS = 2038 // a store for so many has room for any packet
 };
 
-// Decodes the packet at the front of `input` into records in `store`, which holds `store_length` / 32 of them. What is past the
-// packet's length is not looked at. A record's code is the attribute's type, its length that of header and data, its depth 1; flags,
-// vendor and padding are 0. Its kind is, by the type's format in RFC 2865 and RFC 2866:
+// Decodes the packet at the front of `input` into records in `store`, which holds `store_length` / 36 of them. What is past the
+// packet's length is not looked at. A record's code is the attribute's type, its length that of header and data, its depth 1 and its
+// parent TANDREKILY_TOP_LEVEL; flags, vendor and padding are 0. Its kind is, by the type's format in RFC 2865 and RFC 2866:
 //   text: UTF8_STRING; where it is ill-formed UNHANDLED with DATA_VALUE, and the value is at which byte it broke
 //   an address: ADDRESS; an integer: UNSIGNED_32; the value is the number. Not of 4 bytes it is UNHANDLED with DATA_LENGTH
 //   a string, or any other format: OCTET_STRING
@@ -245,8 +250,9 @@ void tandrekily_radius(const uint8_t *input, size_t input_length, uint8_t *store
                        uint8_t authenticator[TANDREKILY_AUTHENTICATOR], uint64_t result[TANDREKILY_RADIUS_RESULT]);
 
 // Writes the packet of the records in `table` to the front of `out`. Their places point into `pool`; a decoder's records with its input
-// as the pool give the packet again. A record is good where its code is at most 255, its length 2..255, its depth 1, flags, vendor,
-// padding and the three bytes of padding 0, and its data within the pool. Kind, error flags, byte 23 and value are not read.
+// as the pool give the packet again. A record is good where its code is at most 255, its length 2..255, its depth 1, its parent
+// TANDREKILY_TOP_LEVEL, flags, vendor, padding and the three bytes of padding 0, and its data within the pool. Kind, error flags, byte
+// 23 and value are not read.
 //   accepted: the packet's length; the rest of `out` stays as it was
 //   refused, in this order: BAD_TABLE, TOO_LONG, NO_ROOM
 // With an output of length 0 it says how many bytes are needed.

@@ -4,7 +4,7 @@
 #include <stdio.h>
 #include <string.h>
 
-enum { LENT = 0xA5, MOST = 512 };
+enum { LENT = 0xA5, MOST = 1024 };
 
 static int failures;
 
@@ -66,6 +66,31 @@ static void check_refusal(const char *name, uint64_t number, uint64_t amount, co
     check_result(name, expected, result);
 }
 
+// ---- parents
+
+static uint32_t parent_of(const uint8_t *record) {
+    const uint8_t *at = record + TANDREKILY_RECORD_PARENT;
+    return (uint32_t)at[0] << 24 | (uint32_t)at[1] << 16 | (uint32_t)at[2] << 8 | at[3];
+}
+
+static void set_parent(uint8_t *record, uint32_t parent) {
+    for (int i = 0; i < 4; i++) record[TANDREKILY_RECORD_PARENT + i] = (uint8_t)(parent >> (24 - 8 * i));
+}
+
+// The index of the last record before this one that is one depth less, by walking back. No record has depth 0.
+static uint32_t walked_back(const uint8_t *table, size_t index) {
+    int depth = table[index * TANDREKILY_RECORD_SIZE + TANDREKILY_RECORD_DEPTH];
+    while (index-- > 0)
+        if (table[index * TANDREKILY_RECORD_SIZE + TANDREKILY_RECORD_DEPTH] == depth - 1) return (uint32_t)index;
+    return TANDREKILY_TOP_LEVEL;
+}
+
+static void check_parents(const char *name, const uint8_t *table, uint64_t records) {
+    size_t told = 0;
+    while (told < records && parent_of(table + told * TANDREKILY_RECORD_SIZE) == walked_back(table, told)) told++;
+    check(name, "a parent is not the one that the depths tell", told == records);
+}
+
 // ---- the decoders
 
 #define MESSAGE(length) "01 0000" length "00000000 00000000 00000000 00000000 "
@@ -73,6 +98,11 @@ static void check_refusal(const char *name, uint64_t number, uint64_t amount, co
 #define FAILING "00000117 00 000009 00 000000"
 #define EMPTY_GROUP "00000117 00 000008"
 #define NESTED "00000117 00 00001C 0000011C 00 000014 0000010B 00 00000C 00000001"
+#define BARE "0000002C 00 000008"
+#define ONE "0000011C 00 000010" BARE
+#define TWO "0000011C 00 000018" BARE BARE
+#define TORN "00000117 00 000012" BARE "0000 0000"
+#define BRANCHES "00000117 00 000054" BARE TWO TORN EMPTY_GROUP ONE
 #define CLASS "00000019 00 000009 FF 000000"
 #define ADDRESS "00000101 00 00000E 0001 C0000201 0000"
 #define CUT_NAME "00000001 40 00000B 61E282 00"
@@ -104,33 +134,33 @@ struct refusal {
 };
 
 static const struct refusal messages_refused[] = {
-    {"limit 0", 0, 64, "", 7, 0},
-    {"limit 65", 65, 64, MESSAGE("14"), 7, 0},
-    {"the largest limit", SIZE_MAX, 64, MESSAGE("14"), 7, 0},
-    {"empty input (P1)", 64, 64, "", 1, 1},
-    {"version 2 (P2)", 64, 64, "02", 2, 0},
-    {"two bytes (P3)", 64, 64, "0100", 1, 2},
-    {"length 3 (P4)", 64, 64, "01000003", 3, 0},
-    {"length 19 of 8 bytes (P5)", 64, 64, "01000013 00000000", 1, 11},
-    {"length 19 (P6)", 64, 64, "01000013 00000000 00000000 00000000 000000", 3, 0},
-    {"padding cut off (P10)", 64, 64, MESSAGE("21") "0000010C 00 00000D 000007D1 00", 4, 0},
-    {"a failing group at limit 1 (P11)", 1, 64, MESSAGE("20") FAILING, 5, 0},
-    {"three levels at limit 2", 2, 128, MESSAGE("30") NESTED, 5, 0},
+    {"limit 0", 0, 72, "", 7, 0},
+    {"limit 65", 65, 72, MESSAGE("14"), 7, 0},
+    {"the largest limit", SIZE_MAX, 72, MESSAGE("14"), 7, 0},
+    {"empty input (P1)", 64, 72, "", 1, 1},
+    {"version 2 (P2)", 64, 72, "02", 2, 0},
+    {"two bytes (P3)", 64, 72, "0100", 1, 2},
+    {"length 3 (P4)", 64, 72, "01000003", 3, 0},
+    {"length 19 of 8 bytes (P5)", 64, 72, "01000013 00000000", 1, 11},
+    {"length 19 (P6)", 64, 72, "01000013 00000000 00000000 00000000 000000", 3, 0},
+    {"padding cut off (P10)", 64, 72, MESSAGE("21") "0000010C 00 00000D 000007D1 00", 4, 0},
+    {"a failing group at limit 1 (P11)", 1, 72, MESSAGE("20") FAILING, 5, 0},
+    {"three levels at limit 2", 2, 144, MESSAGE("30") NESTED, 5, 0},
     {"no room (P13)", 64, 0, MESSAGE("24") RESULT_CODE, 6, 1},
-    {"room for less than a record", 64, 31, MESSAGE("24") RESULT_CODE, 6, 1},
-    {"room for two of three", 64, 95, MESSAGE("30") NESTED, 6, 3},
+    {"room for less than a record", 64, 35, MESSAGE("24") RESULT_CODE, 6, 1},
+    {"room for two of three", 64, 107, MESSAGE("30") NESTED, 6, 3},
 };
 
 static const struct refusal avps_refused[] = {
-    {"AVP: limit 0", 0, 64, "", 7, 0},
-    {"AVP: empty input", 64, 64, "", 1, 4},
-    {"AVP: four bytes", 64, 64, "0000010C", 1, 1},
-    {"AVP: five bytes", 64, 64, "0000010C 00", 1, 3},
-    {"AVP: length 7", 64, 64, "0000010C 00 000007", 3, 0},
-    {"AVP: data cut off", 64, 64, "0000010C 00 00000C 0000", 1, 2},
-    {"AVP: vendor bit and length 8", 64, 64, "0000010C 80 000008", 3, 0},
-    {"AVP: padding cut off", 64, 64, "0000010C 00 00000D 000007D1 00 00", 1, 2},
-    {"AVP: a failing group at limit 1", 1, 64, FAILING, 5, 0},
+    {"AVP: limit 0", 0, 72, "", 7, 0},
+    {"AVP: empty input", 64, 72, "", 1, 4},
+    {"AVP: four bytes", 64, 72, "0000010C", 1, 1},
+    {"AVP: five bytes", 64, 72, "0000010C 00", 1, 3},
+    {"AVP: length 7", 64, 72, "0000010C 00 000007", 3, 0},
+    {"AVP: data cut off", 64, 72, "0000010C 00 00000C 0000", 1, 2},
+    {"AVP: vendor bit and length 8", 64, 72, "0000010C 80 000008", 3, 0},
+    {"AVP: padding cut off", 64, 72, "0000010C 00 00000D 000007D1 00 00", 1, 2},
+    {"AVP: a failing group at limit 1", 1, 72, FAILING, 5, 0},
     {"AVP: no room", 64, 0, RESULT_CODE, 6, 1},
 };
 
@@ -166,79 +196,105 @@ static const struct acceptance messages_accepted[] = {
     {"no AVP (P7)", SAWP, 1, MESSAGE("14"), "", {0, 0, 0, 0, 0, 20, 1, 20}},
     {"every header field, and a byte more", SAWP, 1, "01000014 C5000110 00000003 01020304 05060708 FF", "",
      {0, 0, 4, 0, 0, 20, 1, 20, 0xC5, 0x110, 3, 0x01020304, 0x05060708}},
-    {"P8", SAWP, 64, MESSAGE("24") RESULT_CODE, "0000010C 00 00000D 00000000 0000001C 01 04 02 03 00000000 00000000 000007D1",
-     {0, 0, 2, 1, 1, 36, 1, 36}},
+    {"P8", SAWP, 64, MESSAGE("24") RESULT_CODE,
+     "0000010C 00 00000D 00000000 0000001C 01 04 02 03 00000000 00000000 000007D1 FFFFFFFF", {0, 0, 2, 1, 1, 36, 1, 36}},
     {"a group that does not tile (P11)", SAWP, 2, MESSAGE("20") FAILING,
-     "00000117 00 000009 00000000 0000001C 01 00 01 03 00000000 00000000 00000000", {0, 0, 1, 1, 2, 32, 1, 32}},
+     "00000117 00 000009 00000000 0000001C 01 00 01 03 00000000 00000000 00000000 FFFFFFFF", {0, 0, 1, 1, 2, 32, 1, 32}},
     {"a group without members (P12)", SAWP, 1, MESSAGE("1C") EMPTY_GROUP,
-     "00000117 00 000008 00000000 0000001C 01 08 00 00 00000000 00000000 00000000", {0, 0, 0, 1, 1, 28, 1, 28}},
+     "00000117 00 000008 00000000 0000001C 01 08 00 00 00000000 00000000 00000000 FFFFFFFF", {0, 0, 0, 1, 1, 28, 1, 28}},
     {"a group in a group", RFC, 3, MESSAGE("30") NESTED,
-     "00000117 00 00001C 00000000 0000001C 01 08 00 00 00000000 00000000 00000000"
-     "0000011C 00 000014 00000000 00000024 02 08 00 00 00000000 00000000 00000000"
-     "0000010B 00 00000C 00000000 0000002C 03 04 00 00 00000000 00000000 00000001",
+     "00000117 00 00001C 00000000 0000001C 01 08 00 00 00000000 00000000 00000000 FFFFFFFF"
+     "0000011C 00 000014 00000000 00000024 02 08 00 00 00000000 00000000 00000000 00000000"
+     "0000010B 00 00000C 00000000 0000002C 03 04 00 00 00000000 00000000 00000001 00000001",
      {0, 0, 0, 3, 3, 48, 1, 48}},
+    {"groups among others, and one of them does not tile", EITHER, 3, MESSAGE("88") BARE BRANCHES ONE BARE,
+     "0000002C 00 000008 00000000 0000001C 01 01 00 00 00000000 00000000 00000000 FFFFFFFF"
+     "00000117 00 000054 00000000 00000024 01 08 01 00 00000000 00000000 00000000 FFFFFFFF"
+     "0000002C 00 000008 00000000 0000002C 02 01 00 00 00000000 00000000 00000000 00000001"
+     "0000011C 00 000018 00000000 00000034 02 08 00 00 00000000 00000000 00000000 00000001"
+     "0000002C 00 000008 00000000 0000003C 03 01 00 00 00000000 00000000 00000000 00000003"
+     "0000002C 00 000008 00000000 00000044 03 01 00 00 00000000 00000000 00000000 00000003"
+     "00000117 00 000012 00000000 0000004C 02 00 01 02 00000000 00000000 00000000 00000001"
+     "00000117 00 000008 00000000 00000060 02 08 00 00 00000000 00000000 00000000 00000001"
+     "0000011C 00 000010 00000000 00000068 02 08 00 00 00000000 00000000 00000000 00000001"
+     "0000002C 00 000008 00000000 00000070 03 01 00 00 00000000 00000000 00000000 00000008"
+     "0000011C 00 000010 00000000 00000078 01 08 00 00 00000000 00000000 00000000 FFFFFFFF"
+     "0000002C 00 000008 00000000 00000080 02 01 00 00 00000000 00000000 00000000 0000000A"
+     "0000002C 00 000008 00000000 00000088 01 01 00 00 00000000 00000000 00000000 FFFFFFFF",
+     {0, 0, 1, 13, 15, 136, 1, 136}},
     {"Class is text as the Rust reads it", SAWP, 64, MESSAGE("20") CLASS,
-     "00000019 00 000009 00000000 0000001C 01 00 01 03 00000000 00000000 00000000", {0, 0, 1, 1, 1, 32, 1, 32}},
+     "00000019 00 000009 00000000 0000001C 01 00 01 03 00000000 00000000 00000000 FFFFFFFF", {0, 0, 1, 1, 1, 32, 1, 32}},
     {"Class is any bytes by the RFC", RFC, 64, MESSAGE("20") CLASS,
-     "00000019 00 000009 00000000 0000001C 01 01 00 03 00000000 00000000 00000000", {0, 0, 0, 1, 1, 32, 1, 32}},
+     "00000019 00 000009 00000000 0000001C 01 01 00 03 00000000 00000000 00000000 FFFFFFFF", {0, 0, 0, 1, 1, 32, 1, 32}},
     {"a User-Name that breaks at byte 1", EITHER, 1, MESSAGE("20") CUT_NAME,
-     "00000001 40 00000B 00000000 0000001C 01 00 01 01 00000000 00000000 00000001", {0, 0, 1, 1, 1, 32, 1, 32}},
+     "00000001 40 00000B 00000000 0000001C 01 00 01 01 00000000 00000000 00000001 FFFFFFFF", {0, 0, 1, 1, 1, 32, 1, 32}},
     {"a User-Name that breaks at byte 0", EITHER, 1, MESSAGE("20") "00000001 40 00000A C080 0000",
-     "00000001 40 00000A 00000000 0000001C 01 00 01 02 00000000 00000000 00000000", {0, 0, 1, 1, 1, 32, 1, 32}},
+     "00000001 40 00000A 00000000 0000001C 01 00 01 02 00000000 00000000 00000000 FFFFFFFF", {0, 0, 1, 1, 1, 32, 1, 32}},
     {"a User-Name that breaks at byte 256", EITHER, 1, "01000120 00000000 00000000 00000000 00000000"
      "00000001 40 00010A" LETTERS_256 "C341 0000",
-     "00000001 40 00010A 00000000 0000001C 01 00 01 02 00000000 00000000 00000100", {0, 0, 1, 1, 1, 288, 1, 288}},
+     "00000001 40 00010A 00000000 0000001C 01 00 01 02 00000000 00000000 00000100 FFFFFFFF", {0, 0, 1, 1, 1, 288, 1, 288}},
     {"a User-Name that breaks in a group", EITHER, 2, MESSAGE("28") "00000117 00 000014" CUT_NAME,
-     "00000117 00 000014 00000000 0000001C 01 08 01 00 00000000 00000000 00000000"
-     "00000001 40 00000B 00000000 00000024 02 00 01 01 00000000 00000000 00000001",
+     "00000117 00 000014 00000000 0000001C 01 08 01 00 00000000 00000000 00000000 FFFFFFFF"
+     "00000001 40 00000B 00000000 00000024 02 00 01 01 00000000 00000000 00000001 00000000",
      {0, 0, 1, 2, 2, 40, 1, 40}},
     {"letters in a group that does not tile", EITHER, 2, MESSAGE("20") "00000117 00 00000C" LETTERS_4,
-     "00000117 00 00000C 00000000 0000001C 01 00 01 00 00000000 00000000 00000000", {0, 0, 1, 1, 2, 32, 1, 32}},
+     "00000117 00 00000C 00000000 0000001C 01 00 01 00 00000000 00000000 00000000 FFFFFFFF", {0, 0, 1, 1, 2, 32, 1, 32}},
     {"a Result-Code of 3 letters", EITHER, 1, MESSAGE("20") "0000010C 00 00000B 616263 00",
-     "0000010C 00 00000B 00000000 0000001C 01 00 02 01 00000000 00000000 00000000", {0, 0, 2, 1, 1, 32, 1, 32}},
+     "0000010C 00 00000B 00000000 0000001C 01 00 02 01 00000000 00000000 00000000 FFFFFFFF", {0, 0, 2, 1, 1, 32, 1, 32}},
     {"letters of an unknown code", EITHER, 1, MESSAGE("20") "00000000 00 00000C" LETTERS_4,
-     "00000000 00 00000C 00000000 0000001C 01 00 00 00 00000000 00000000 00000000", {0, 0, 0, 1, 1, 32, 1, 32}},
+     "00000000 00 00000C 00000000 0000001C 01 00 00 00 00000000 00000000 00000000 FFFFFFFF", {0, 0, 0, 1, 1, 32, 1, 32}},
 };
 
 static const struct acceptance avps_accepted[] = {
     {"AVP: P8's, and a byte more", SAWP, 1, RESULT_CODE "FF",
-     "0000010C 00 00000D 00000000 00000008 01 04 02 03 00000000 00000000 000007D1", {0, 0, 2, 1, 1, 16}},
+     "0000010C 00 00000D 00000000 00000008 01 04 02 03 00000000 00000000 000007D1 FFFFFFFF", {0, 0, 2, 1, 1, 16}},
+    {"AVP: groups in a group, and one of them does not tile", EITHER, 3, BRANCHES BARE,
+     "00000117 00 000054 00000000 00000008 01 08 01 00 00000000 00000000 00000000 FFFFFFFF"
+     "0000002C 00 000008 00000000 00000010 02 01 00 00 00000000 00000000 00000000 00000000"
+     "0000011C 00 000018 00000000 00000018 02 08 00 00 00000000 00000000 00000000 00000000"
+     "0000002C 00 000008 00000000 00000020 03 01 00 00 00000000 00000000 00000000 00000002"
+     "0000002C 00 000008 00000000 00000028 03 01 00 00 00000000 00000000 00000000 00000002"
+     "00000117 00 000012 00000000 00000030 02 00 01 02 00000000 00000000 00000000 00000000"
+     "00000117 00 000008 00000000 00000044 02 08 00 00 00000000 00000000 00000000 00000000"
+     "0000011C 00 000010 00000000 0000004C 02 08 00 00 00000000 00000000 00000000 00000000"
+     "0000002C 00 000008 00000000 00000054 03 01 00 00 00000000 00000000 00000000 00000007",
+     {0, 0, 1, 9, 11, 84}},
     {"AVP: an address has no family as the Rust reads it", SAWP, 1, ADDRESS,
-     "00000101 00 00000E 00000000 00000008 01 00 02 02 00000000 00000000 00000000", {0, 0, 2, 1, 1, 16}},
+     "00000101 00 00000E 00000000 00000008 01 00 02 02 00000000 00000000 00000000 FFFFFFFF", {0, 0, 2, 1, 1, 16}},
     {"AVP: an address has a family by the RFC", RFC, 1, ADDRESS,
-     "00000101 00 00000E 00000000 00000008 01 0D 00 02 00000000 00000000 C0000201", {0, 0, 0, 1, 1, 16}},
+     "00000101 00 00000E 00000000 00000008 01 0D 00 02 00000000 00000000 C0000201 FFFFFFFF", {0, 0, 0, 1, 1, 16}},
     {"AVP: vendor, reserved bits and padding", SAWP, 1, "0000002C 9F 00000E 000028AF ABCD 1234",
-     "0000002C 9F 00000E 000028AF 0000000C 01 01 0C 02 12340000 00000000 00000000", {0, 0, 12, 1, 1, 16}},
+     "0000002C 9F 00000E 000028AF 0000000C 01 01 0C 02 12340000 00000000 00000000 FFFFFFFF", {0, 0, 12, 1, 1, 16}},
     {"AVP: an Event-Timestamp of March 2036 keeps its bits", RFC, 1, "00000037 40 00000C 001DF780",
-     "00000037 40 00000C 00000000 00000008 01 0E 00 00 00000000 00000000 001DF780", {0, 0, 0, 1, 1, 12}},
+     "00000037 40 00000C 00000000 00000008 01 0E 00 00 00000000 00000000 001DF780 FFFFFFFF", {0, 0, 0, 1, 1, 12}},
     {"AVP: a User-Name that breaks at byte 1", EITHER, 1, CUT_NAME,
-     "00000001 40 00000B 00000000 00000008 01 00 01 01 00000000 00000000 00000001", {0, 0, 1, 1, 1, 12}},
+     "00000001 40 00000B 00000000 00000008 01 00 01 01 00000000 00000000 00000001 FFFFFFFF", {0, 0, 1, 1, 1, 12}},
     {"AVP: a User-Name that its padding would complete", EITHER, 1, "00000001 40 00000B 61E282 AC",
-     "00000001 40 00000B 00000000 00000008 01 00 09 01 AC000000 00000000 00000001", {0, 0, 9, 1, 1, 12}},
+     "00000001 40 00000B 00000000 00000008 01 00 09 01 AC000000 00000000 00000001 FFFFFFFF", {0, 0, 9, 1, 1, 12}},
     {"AVP: a User-Name that breaks at byte 0", EITHER, 1, "00000001 40 00000A 8061 0000",
-     "00000001 40 00000A 00000000 00000008 01 00 01 02 00000000 00000000 00000000", {0, 0, 1, 1, 1, 12}},
+     "00000001 40 00000A 00000000 00000008 01 00 01 02 00000000 00000000 00000000 FFFFFFFF", {0, 0, 1, 1, 1, 12}},
     {"AVP: a User-Name that breaks at byte 256", EITHER, 1, "00000001 40 000109" LETTERS_256 "FF 000000",
-     "00000001 40 000109 00000000 00000008 01 00 01 03 00000000 00000000 00000100", {0, 0, 1, 1, 1, 268}},
+     "00000001 40 000109 00000000 00000008 01 00 01 03 00000000 00000000 00000100 FFFFFFFF", {0, 0, 1, 1, 1, 268}},
     {"AVP: an Origin-Host that breaks at byte 2", EITHER, 1, "00000108 40 00000B C3A9FF 00",
-     "00000108 40 00000B 00000000 00000008 01 00 01 01 00000000 00000000 00000002", {0, 0, 1, 1, 1, 12}},
+     "00000108 40 00000B 00000000 00000008 01 00 01 01 00000000 00000000 00000002 FFFFFFFF", {0, 0, 1, 1, 1, 12}},
     {"AVP: a Redirect-Host that breaks at byte 3", EITHER, 1, "00000124 40 00000C 616161FF",
-     "00000124 40 00000C 00000000 00000008 01 00 01 00 00000000 00000000 00000003", {0, 0, 1, 1, 1, 12}},
+     "00000124 40 00000C 00000000 00000008 01 00 01 00 00000000 00000000 00000003 FFFFFFFF", {0, 0, 1, 1, 1, 12}},
     {"AVP: a Class that breaks at byte 1 as the Rust reads it", SAWP, 1, "00000019 00 00000A 61FF 0000",
-     "00000019 00 00000A 00000000 00000008 01 00 01 02 00000000 00000000 00000001", {0, 0, 1, 1, 1, 12}},
+     "00000019 00 00000A 00000000 00000008 01 00 01 02 00000000 00000000 00000001 FFFFFFFF", {0, 0, 1, 1, 1, 12}},
     {"AVP: a vendor's User-Name breaks as the Rust reads it", SAWP, 1, "00000001 80 00000E 000028AF 61FF 0000",
-     "00000001 80 00000E 000028AF 0000000C 01 00 01 02 00000000 00000000 00000001", {0, 0, 1, 1, 1, 16}},
+     "00000001 80 00000E 000028AF 0000000C 01 00 01 02 00000000 00000000 00000001 FFFFFFFF", {0, 0, 1, 1, 1, 16}},
     {"AVP: a vendor's User-Name is unknown by the RFC", RFC, 1, "00000001 80 00000E 000028AF 61FF 0000",
-     "00000001 80 00000E 000028AF 0000000C 01 00 00 02 00000000 00000000 00000000", {0, 0, 0, 1, 1, 16}},
+     "00000001 80 00000E 000028AF 0000000C 01 00 00 02 00000000 00000000 00000000 FFFFFFFF", {0, 0, 0, 1, 1, 16}},
     {"AVP: letters in a group that does not tile", EITHER, 2, "00000117 00 00000C" LETTERS_4,
-     "00000117 00 00000C 00000000 00000008 01 00 01 00 00000000 00000000 00000000", {0, 0, 1, 1, 2, 12}},
+     "00000117 00 00000C 00000000 00000008 01 00 01 00 00000000 00000000 00000000 FFFFFFFF", {0, 0, 1, 1, 2, 12}},
     {"AVP: a Result-Code of 3 letters", EITHER, 1, "0000010C 00 00000B 616263 00",
-     "0000010C 00 00000B 00000000 00000008 01 00 02 01 00000000 00000000 00000000", {0, 0, 2, 1, 1, 12}},
+     "0000010C 00 00000B 00000000 00000008 01 00 02 01 00000000 00000000 00000000 FFFFFFFF", {0, 0, 2, 1, 1, 12}},
     {"AVP: a Host-IP-Address of 3 bytes", EITHER, 1, "00000101 00 00000B 0001 61 00",
-     "00000101 00 00000B 00000000 00000008 01 00 02 01 00000000 00000000 00000000", {0, 0, 2, 1, 1, 12}},
+     "00000101 00 00000B 00000000 00000008 01 00 02 01 00000000 00000000 00000000 FFFFFFFF", {0, 0, 2, 1, 1, 12}},
     {"AVP: a Host-IP-Address of another family by the RFC", RFC, 1, "00000101 00 00000C" LETTERS_4,
-     "00000101 00 00000C 00000000 00000008 01 00 00 00 00000000 00000000 00000000", {0, 0, 0, 1, 1, 12}},
+     "00000101 00 00000C 00000000 00000008 01 00 00 00 00000000 00000000 00000000 FFFFFFFF", {0, 0, 0, 1, 1, 12}},
     {"AVP: letters of an unknown code", EITHER, 1, "00000000 00 00000C" LETTERS_4,
-     "00000000 00 00000C 00000000 00000008 01 00 00 00 00000000 00000000 00000000", {0, 0, 0, 1, 1, 12}},
+     "00000000 00 00000C 00000000 00000008 01 00 00 00 00000000 00000000 00000000 FFFFFFFF", {0, 0, 0, 1, 1, 12}},
 };
 
 // The store ends with the last record, or has room for five bytes or a record and five bytes more: all zero then.
@@ -255,6 +311,7 @@ static void accepts(decoder *decode, uint32_t by, const struct acceptance *a) {
         decode(by, a->limit, input, length, store, room, result);
         check_result(a->name, a->result, result);
         check(a->name, "the records are others", is_hex(a->records, store));
+        check_parents(a->name, store, a->result[TANDREKILY_RECORDS]);
         check(a->name, "the store is not zero after the last record", all(0, store + used, spare[i]));
         check(a->name, "bytes after the store were changed", all(LENT, store + room, sizeof store - room));
     }
@@ -280,27 +337,58 @@ static void decoders(void) {
         accept(avp, tandrekily_avp_by, &avps_accepted[i]);
 }
 
+// A group of 65,535 members and one more, a group with a member: the last parent takes three bytes.
+enum { MEMBERS = 65535, LONG_RECORDS = MEMBERS + 3, LONG_AVP = 8 + 8 * MEMBERS + 16 };
+
+static void check_long(const char *name, decoder *decode, uint32_t by, const uint8_t *input, size_t length, uint8_t *store) {
+    uint64_t result[TANDREKILY_RESULT];
+    decode(by, 3, input, length, store, LONG_RECORDS * TANDREKILY_RECORD_SIZE, result);
+    check(name, "not as many records", result[TANDREKILY_RECORDS] == LONG_RECORDS);
+    check(name, "the first has a parent", parent_of(store) == TANDREKILY_TOP_LEVEL);
+    for (uint32_t i = 1; i < LONG_RECORDS; i++) {
+        uint32_t parent = i <= MEMBERS + 1 ? 0 : MEMBERS + 1;
+        if (parent_of(store + i * TANDREKILY_RECORD_SIZE) == parent) continue;
+        check(name, "a member has another parent", false);
+        return;
+    }
+}
+
+static void long_group(void) {
+    static uint8_t input[TANDREKILY_HEADER + LONG_AVP], store[LONG_RECORDS * TANDREKILY_RECORD_SIZE];
+    uint8_t *avp_at = input + TANDREKILY_HEADER;
+    uint64_t result[TANDREKILY_RESULT];
+    size_t place = bytes_of("01080024 00000000 00000000 00000000 00000000 00000117 00 080010", input);
+    for (int i = 0; i < MEMBERS; i++) place += bytes_of(BARE, input + place);
+    bytes_of(ONE, input + place);
+    check_long("AVP: a long group", avp, SAWP, avp_at, LONG_AVP, store);
+    check_long("AVP: a long group by RFC 8506", tandrekily_avp_by, TANDREKILY_RFC_8506, avp_at, LONG_AVP, store);
+    check_long("a long group by RFC 8506", tandrekily_message_by, TANDREKILY_RFC_8506, input, sizeof input, store);
+    check_long("a long group", message, SAWP, input, sizeof input, store);
+    tandrekily_write(0, 0, 0, 0, 0, store, sizeof store, input, sizeof input, input, 0, result);
+    check_refusal("write: a long group, and no room", TANDREKILY_NO_ROOM, sizeof input, result);
+}
+
 // ---- editions
 
 #define EXPONENT "000001AD 40 00000C FFFFFFFE"
 #define DIGITS "000001BF 40 000010 FFFFFFFF FFFFFFFD"
 #define UNIT_VALUE "000001BD 40 000024" DIGITS EXPONENT
-#define UNIT_VALUE_RECORDS                                                         \
-    "000001BD 40 000024 00000000 0000001C 01 08 00 00 00000000 00000000 00000000"  \
-    "000001BF 40 000010 00000000 00000024 02 03 00 00 00000000 FFFFFFFF FFFFFFFD"  \
-    "000001AD 40 00000C 00000000 00000034 02 02 00 00 00000000 00000000 FFFFFFFE"
+#define UNIT_VALUE_RECORDS                                                                  \
+    "000001BD 40 000024 00000000 0000001C 01 08 00 00 00000000 00000000 00000000 FFFFFFFF"  \
+    "000001BF 40 000010 00000000 00000024 02 03 00 00 00000000 FFFFFFFF FFFFFFFD 00000000"  \
+    "000001AD 40 00000C 00000000 00000034 02 02 00 00 00000000 00000000 FFFFFFFE 00000000"
 #define EQUIPMENT "0000028D 40 000014 0000028E 40 00000C 01020304"
 #define CUT_SERVER "000001B3 00 00000B 61E282 00"
 #define CUT_URL "0000029B 00 00000B 61E282 00"
 
 // By no edition. A limit that is bad too is answered first, and an input that is empty, cut off or of no version after it.
 static const struct refusal no_edition[] = {
-    {"no edition", 64, 64, MESSAGE("14"), 12, 0},
-    {"no edition: empty input", 1, 64, "", 12, 0},
-    {"no edition: version 2", 64, 64, "02", 12, 0},
+    {"no edition", 64, 72, MESSAGE("14"), 12, 0},
+    {"no edition: empty input", 1, 72, "", 12, 0},
+    {"no edition: version 2", 64, 72, "02", 12, 0},
     {"no edition: no room", 64, 0, MESSAGE("24") RESULT_CODE, 12, 0},
-    {"no edition: limit 0", 0, 64, MESSAGE("14"), 7, 0},
-    {"no edition: limit 65 and empty input", 65, 64, "", 7, 0},
+    {"no edition: limit 0", 0, 72, MESSAGE("14"), 7, 0},
+    {"no edition: limit 65 and empty input", 65, 72, "", 7, 0},
 };
 
 // Numbers beside those of the editions, and one whose low 16 bits are 4006.
@@ -308,13 +396,13 @@ static const uint32_t none[] = {0, 1, 4005, 4007, 6733, 8505, 8507, 69542, 74042
 
 // By either edition the members of a Unit-Value count.
 static const struct refusal messages_refused_by[] = {
-    {"a Unit-Value at limit 1", 1, 128, MESSAGE("38") UNIT_VALUE, 5, 0},
-    {"room for two of a Unit-Value and its members", 64, 95, MESSAGE("38") UNIT_VALUE, 6, 3},
+    {"a Unit-Value at limit 1", 1, 144, MESSAGE("38") UNIT_VALUE, 5, 0},
+    {"room for two of a Unit-Value and its members", 64, 107, MESSAGE("38") UNIT_VALUE, 6, 3},
 };
 
 static const struct refusal avps_refused_by[] = {
-    {"AVP: a Unit-Value at limit 1", 1, 128, UNIT_VALUE, 5, 0},
-    {"AVP: room for two of a Unit-Value and its members", 64, 95, UNIT_VALUE, 6, 3},
+    {"AVP: a Unit-Value at limit 1", 1, 144, UNIT_VALUE, 5, 0},
+    {"AVP: room for two of a Unit-Value and its members", 64, 107, UNIT_VALUE, 6, 3},
 };
 
 static const struct acceptance messages_by[] = {
@@ -323,74 +411,74 @@ static const struct acceptance messages_by[] = {
     {"a Unit-Value of -3 and -2 by RFC 8506", TANDREKILY_RFC_8506, 2, MESSAGE("38") UNIT_VALUE,
      UNIT_VALUE_RECORDS, {0, 0, 0, 3, 3, 56, 1, 56}},
     {"User-Equipment-Info-Extension by RFC 4006", TANDREKILY_RFC_4006, 1, MESSAGE("28") EQUIPMENT,
-     "0000028D 40 000014 00000000 0000001C 01 00 00 00 00000000 00000000 00000000", {0, 0, 0, 1, 1, 40, 1, 40}},
+     "0000028D 40 000014 00000000 0000001C 01 00 00 00 00000000 00000000 00000000 FFFFFFFF", {0, 0, 0, 1, 1, 40, 1, 40}},
     {"User-Equipment-Info-Extension by RFC 8506", TANDREKILY_RFC_8506, 2, MESSAGE("28") EQUIPMENT,
-     "0000028D 40 000014 00000000 0000001C 01 08 00 00 00000000 00000000 00000000"
-     "0000028E 40 00000C 00000000 00000024 02 01 00 00 00000000 00000000 00000000",
+     "0000028D 40 000014 00000000 0000001C 01 08 00 00 00000000 00000000 00000000 FFFFFFFF"
+     "0000028E 40 00000C 00000000 00000024 02 01 00 00 00000000 00000000 00000000 00000000",
      {0, 0, 0, 2, 2, 40, 1, 40}},
     {"a Redirect-Server-Address that breaks at byte 1", TANDREKILY_RFC_4006, 1, MESSAGE("20") CUT_SERVER,
-     "000001B3 00 00000B 00000000 0000001C 01 00 01 01 00000000 00000000 00000001", {0, 0, 1, 1, 1, 32, 1, 32}},
+     "000001B3 00 00000B 00000000 0000001C 01 00 01 01 00000000 00000000 00000001 FFFFFFFF", {0, 0, 1, 1, 1, 32, 1, 32}},
     {"a Redirect-Address-URL that breaks at byte 1 by RFC 8506", TANDREKILY_RFC_8506, 1, MESSAGE("20") CUT_URL,
-     "0000029B 00 00000B 00000000 0000001C 01 00 01 01 00000000 00000000 00000001", {0, 0, 1, 1, 1, 32, 1, 32}},
+     "0000029B 00 00000B 00000000 0000001C 01 00 01 01 00000000 00000000 00000001 FFFFFFFF", {0, 0, 1, 1, 1, 32, 1, 32}},
     {"letters in a CC-Money that does not tile", TANDREKILY_RFC_8506, 2, MESSAGE("20") "0000019D 00 00000C" LETTERS_4,
-     "0000019D 00 00000C 00000000 0000001C 01 00 01 00 00000000 00000000 00000000", {0, 0, 1, 1, 2, 32, 1, 32}},
+     "0000019D 00 00000C 00000000 0000001C 01 00 01 00 00000000 00000000 00000000 FFFFFFFF", {0, 0, 1, 1, 2, 32, 1, 32}},
 };
 
 static const struct acceptance avps_by[] = {
     {"AVP: CC-Correlation-Id is any bytes", TANDREKILY_RFC_4006, 1, "0000019B 00 000009 FF 000000",
-     "0000019B 00 000009 00000000 00000008 01 01 00 03 00000000 00000000 00000000", {0, 0, 0, 1, 1, 12}},
+     "0000019B 00 000009 00000000 00000008 01 01 00 03 00000000 00000000 00000000 FFFFFFFF", {0, 0, 0, 1, 1, 12}},
     {"AVP: Exponent is an Integer32", TANDREKILY_RFC_4006, 1, EXPONENT,
-     "000001AD 40 00000C 00000000 00000008 01 02 00 00 00000000 00000000 FFFFFFFE", {0, 0, 0, 1, 1, 12}},
+     "000001AD 40 00000C 00000000 00000008 01 02 00 00 00000000 00000000 FFFFFFFE FFFFFFFF", {0, 0, 0, 1, 1, 12}},
     {"AVP: an Exponent of 5 bytes", TANDREKILY_RFC_8506, 1, "000001AD 40 00000D 80000000 00 000000",
-     "000001AD 40 00000D 00000000 00000008 01 02 02 03 00000000 00000000 80000000", {0, 0, 2, 1, 1, 16}},
+     "000001AD 40 00000D 00000000 00000008 01 02 02 03 00000000 00000000 80000000 FFFFFFFF", {0, 0, 2, 1, 1, 16}},
     {"AVP: an Exponent of 3 bytes", TANDREKILY_RFC_8506, 1, "000001AD 40 00000B 000001 00",
-     "000001AD 40 00000B 00000000 00000008 01 00 02 01 00000000 00000000 00000000", {0, 0, 2, 1, 1, 12}},
+     "000001AD 40 00000B 00000000 00000008 01 00 02 01 00000000 00000000 00000000 FFFFFFFF", {0, 0, 2, 1, 1, 12}},
     {"AVP: Value-Digits is an Integer64", TANDREKILY_RFC_8506, 1, DIGITS,
-     "000001BF 40 000010 00000000 00000008 01 03 00 00 00000000 FFFFFFFF FFFFFFFD", {0, 0, 0, 1, 1, 16}},
+     "000001BF 40 000010 00000000 00000008 01 03 00 00 00000000 FFFFFFFF FFFFFFFD FFFFFFFF", {0, 0, 0, 1, 1, 16}},
     {"AVP: Value-Digits of 9 bytes", TANDREKILY_RFC_4006, 1, "000001BF 40 000011 80000000 00000001 00 000000",
-     "000001BF 40 000011 00000000 00000008 01 03 02 03 00000000 80000000 00000001", {0, 0, 2, 1, 1, 20}},
+     "000001BF 40 000011 00000000 00000008 01 03 02 03 00000000 80000000 00000001 FFFFFFFF", {0, 0, 2, 1, 1, 20}},
     {"AVP: Value-Digits of 4 bytes", TANDREKILY_RFC_4006, 1, "000001BF 40 00000C 00000001",
-     "000001BF 40 00000C 00000000 00000008 01 00 02 00 00000000 00000000 00000000", {0, 0, 2, 1, 1, 12}},
+     "000001BF 40 00000C 00000000 00000008 01 00 02 00 00000000 00000000 00000000 FFFFFFFF", {0, 0, 2, 1, 1, 12}},
     {"AVP: Currency-Code is an Unsigned32", TANDREKILY_RFC_4006, 1, "000001A9 00 00000C 000003D2",
-     "000001A9 00 00000C 00000000 00000008 01 04 00 00 00000000 00000000 000003D2", {0, 0, 0, 1, 1, 12}},
+     "000001A9 00 00000C 00000000 00000008 01 04 00 00 00000000 00000000 000003D2 FFFFFFFF", {0, 0, 0, 1, 1, 12}},
     {"AVP: CC-Total-Octets is an Unsigned64", TANDREKILY_RFC_8506, 1, "000001A5 00 000010 80000000 00000001",
-     "000001A5 00 000010 00000000 00000008 01 05 00 00 00000000 80000000 00000001", {0, 0, 0, 1, 1, 16}},
+     "000001A5 00 000010 00000000 00000008 01 05 00 00 00000000 80000000 00000001 FFFFFFFF", {0, 0, 0, 1, 1, 16}},
     {"AVP: CC-Money is a group", TANDREKILY_RFC_8506, 1, "0000019D 00 000008",
-     "0000019D 00 000008 00000000 00000008 01 08 00 00 00000000 00000000 00000000", {0, 0, 0, 1, 1, 8}},
+     "0000019D 00 000008 00000000 00000008 01 08 00 00 00000000 00000000 00000000 FFFFFFFF", {0, 0, 0, 1, 1, 8}},
     {"AVP: CC-Request-Type is an Enumerated", TANDREKILY_RFC_4006, 1, "000001A0 00 00000C FFFFFFFF",
-     "000001A0 00 00000C 00000000 00000008 01 09 00 00 00000000 00000000 FFFFFFFF", {0, 0, 0, 1, 1, 12}},
+     "000001A0 00 00000C 00000000 00000008 01 09 00 00 00000000 00000000 FFFFFFFF FFFFFFFF", {0, 0, 0, 1, 1, 12}},
     {"AVP: Cost-Unit is text", TANDREKILY_RFC_4006, 1, "000001A8 00 00000A C3A9 0000",
-     "000001A8 00 00000A 00000000 00000008 01 0A 00 02 00000000 00000000 00000000", {0, 0, 0, 1, 1, 12}},
+     "000001A8 00 00000A 00000000 00000008 01 0A 00 02 00000000 00000000 00000000 FFFFFFFF", {0, 0, 0, 1, 1, 12}},
     {"AVP: Redirect-Address-IPAddress by RFC 8506", TANDREKILY_RFC_8506, 1, "0000029A 00 00000E 0001 C0000201 0000",
-     "0000029A 00 00000E 00000000 00000008 01 0D 00 02 00000000 00000000 C0000201", {0, 0, 0, 1, 1, 16}},
+     "0000029A 00 00000E 00000000 00000008 01 0D 00 02 00000000 00000000 C0000201 FFFFFFFF", {0, 0, 0, 1, 1, 16}},
     {"AVP: Redirect-Address-IPAddress by RFC 4006", TANDREKILY_RFC_4006, 1, "0000029A 00 00000E 0001 C0000201 0000",
-     "0000029A 00 00000E 00000000 00000008 01 00 00 02 00000000 00000000 00000000", {0, 0, 0, 1, 1, 16}},
+     "0000029A 00 00000E 00000000 00000008 01 00 00 02 00000000 00000000 00000000 FFFFFFFF", {0, 0, 0, 1, 1, 16}},
     {"AVP: Tariff-Time-Change is a Time", TANDREKILY_RFC_8506, 1, "000001C3 00 00000C 83AA7E80",
-     "000001C3 00 00000C 00000000 00000008 01 0E 00 00 00000000 00000000 83AA7E80", {0, 0, 0, 1, 1, 12}},
+     "000001C3 00 00000C 00000000 00000008 01 0E 00 00 00000000 00000000 83AA7E80 FFFFFFFF", {0, 0, 0, 1, 1, 12}},
     {"AVP: Restriction-Filter-Rule is any bytes", TANDREKILY_RFC_4006, 1, "000001B6 00 000009 FF 000000",
-     "000001B6 00 000009 00000000 00000008 01 01 00 03 00000000 00000000 00000000", {0, 0, 0, 1, 1, 12}},
+     "000001B6 00 000009 00000000 00000008 01 01 00 03 00000000 00000000 00000000 FFFFFFFF", {0, 0, 0, 1, 1, 12}},
     {"AVP: a vendor's Exponent", TANDREKILY_RFC_8506, 1, "000001AD 80 000010 000028AF 00000001",
-     "000001AD 80 000010 000028AF 0000000C 01 00 00 00 00000000 00000000 00000000", {0, 0, 0, 1, 1, 16}},
+     "000001AD 80 000010 000028AF 0000000C 01 00 00 00 00000000 00000000 00000000 FFFFFFFF", {0, 0, 0, 1, 1, 16}},
     {"AVP: a Redirect-Server-Address that breaks at byte 1", TANDREKILY_RFC_4006, 1, CUT_SERVER,
-     "000001B3 00 00000B 00000000 00000008 01 00 01 01 00000000 00000000 00000001", {0, 0, 1, 1, 1, 12}},
+     "000001B3 00 00000B 00000000 00000008 01 00 01 01 00000000 00000000 00000001 FFFFFFFF", {0, 0, 1, 1, 1, 12}},
     {"AVP: a Subscription-Id-Data that breaks at byte 0", TANDREKILY_RFC_8506, 1, "000001BC 00 000009 FF 000000",
-     "000001BC 00 000009 00000000 00000008 01 00 01 03 00000000 00000000 00000000", {0, 0, 1, 1, 1, 12}},
+     "000001BC 00 000009 00000000 00000008 01 00 01 03 00000000 00000000 00000000 FFFFFFFF", {0, 0, 1, 1, 1, 12}},
     {"AVP: a Redirect-Address-URL that breaks at byte 1 by RFC 8506", TANDREKILY_RFC_8506, 1, CUT_URL,
-     "0000029B 00 00000B 00000000 00000008 01 00 01 01 00000000 00000000 00000001", {0, 0, 1, 1, 1, 12}},
+     "0000029B 00 00000B 00000000 00000008 01 00 01 01 00000000 00000000 00000001 FFFFFFFF", {0, 0, 1, 1, 1, 12}},
     {"AVP: a Redirect-Address-URL is unknown by RFC 4006", TANDREKILY_RFC_4006, 1, CUT_URL,
-     "0000029B 00 00000B 00000000 00000008 01 00 00 01 00000000 00000000 00000000", {0, 0, 0, 1, 1, 12}},
+     "0000029B 00 00000B 00000000 00000008 01 00 00 01 00000000 00000000 00000000 FFFFFFFF", {0, 0, 0, 1, 1, 12}},
     {"AVP: letters in a CC-Money that does not tile", TANDREKILY_RFC_4006, 2, "0000019D 00 00000C" LETTERS_4,
-     "0000019D 00 00000C 00000000 00000008 01 00 01 00 00000000 00000000 00000000", {0, 0, 1, 1, 2, 12}},
+     "0000019D 00 00000C 00000000 00000008 01 00 01 00 00000000 00000000 00000000 FFFFFFFF", {0, 0, 1, 1, 2, 12}},
 };
 
 // The readings have no code of the editions.
 static const struct acceptance without_edition[] = {
     {"AVP: Exponent is unknown as the Rust reads it", SAWP, 1, EXPONENT,
-     "000001AD 40 00000C 00000000 00000008 01 00 00 00 00000000 00000000 00000000", {0, 0, 0, 1, 1, 12}},
+     "000001AD 40 00000C 00000000 00000008 01 00 00 00 00000000 00000000 00000000 FFFFFFFF", {0, 0, 0, 1, 1, 12}},
     {"AVP: Exponent is unknown by RFC 6733", RFC, 1, EXPONENT,
-     "000001AD 40 00000C 00000000 00000008 01 00 00 00 00000000 00000000 00000000", {0, 0, 0, 1, 1, 12}},
+     "000001AD 40 00000C 00000000 00000008 01 00 00 00 00000000 00000000 00000000 FFFFFFFF", {0, 0, 0, 1, 1, 12}},
     {"AVP: Redirect-Server-Address is unknown by RFC 6733", RFC, 1, CUT_SERVER,
-     "000001B3 00 00000B 00000000 00000008 01 00 00 01 00000000 00000000 00000000", {0, 0, 0, 1, 1, 12}},
+     "000001B3 00 00000B 00000000 00000008 01 00 00 01 00000000 00000000 00000000 FFFFFFFF", {0, 0, 0, 1, 1, 12}},
 };
 
 static void edition_refusals(void) {
@@ -593,9 +681,15 @@ static void long_avp(void) {
 
 // ---- the writer
 
-#define RECORD "0000010C 00 00000D 00000000 00000000 01 04 02 03 00000000 00000000 000007D1"
-#define DEEPER "0000010C 00 00000D 00000000 00000000 02 04 02 03 00000000 00000000 000007D1"
-#define GROUP "00000117 00 000000 00000000 00000000 01 08 00 00 00000000 00000000 00000000"
+#define RECORD "0000010C 00 00000D 00000000 00000000 01 04 02 03 00000000 00000000 000007D1 FFFFFFFF"
+#define DEEPER "0000010C 00 00000D 00000000 00000000 02 04 02 03 00000000 00000000 000007D1 00000000"
+#define DEEPEST "0000010C 00 00000D 00000000 00000000 03 04 02 03 00000000 00000000 000007D1 00000002"
+#define GROUP "00000117 00 000000 00000000 00000000 01 08 00 00 00000000 00000000 00000000 FFFFFFFF"
+#define INNER "0000011C 00 000000 00000000 00000000 02 08 00 00 00000000 00000000 00000000 00000000"
+#define OF_THE_SECOND "0000010C 00 00000D 00000000 00000000 02 04 02 03 00000000 00000000 000007D1 00000006"
+#define TREE GROUP DEEPER INNER DEEPEST DEEPEST DEEPER GROUP OF_THE_SECOND RECORD
+#define STRAY "0000010C 00 00000D 00000000 00000000 01 04 02 03 00000000 00000000 000007D1 00000000"
+#define UNPADDED "0000010C 00 00000D 00000000 00000000 01 04 02 02 00000000 00000000 000007D1 FFFFFFFF"
 #define POOL "000007D1 00"
 
 struct written {
@@ -612,10 +706,20 @@ static const struct written writes[] = {
     {"write: P8's record", 0, RECORD, 41, 0, 0, "01000024 C5000000 00000003 01020304 05060708" RESULT_CODE},
     {"write: a group's length is computed", 0xFFFFFF, GROUP DEEPER, 44, 0, 0,
      "0100002C C5FFFFFF 00000003 01020304 05060708 00000117 00 000018" RESULT_CODE},
+    {"write: groups in a group, and another", 0, TREE, 140, 0, 0,
+     "0100008C C5000000 00000003 01020304 05060708 00000117 00 000050" RESULT_CODE "0000011C 00 000028" RESULT_CODE RESULT_CODE
+     RESULT_CODE "00000117 00 000018" RESULT_CODE RESULT_CODE},
     {"write: command code of 25 bits", 0x1000000, DEEPER, 0, 8, 0, ""},
+    {"write: command code of 25 bits, and a wrong parent", 0x1000000, STRAY, 64, 8, 0, ""},
     {"write: the first record is too deep", 0, DEEPER, 64, 9, 0, ""},
     {"write: the second is deeper after no group", 0, RECORD DEEPER, 64, 9, 1, ""},
     {"write: bytes left over", 0, RECORD "00", 64, 9, 1, ""},
+    {"write: the first record has a parent", 0, STRAY, 64, 9, 0, ""},
+    {"write: a record in no group has a parent", 0, RECORD STRAY, 64, 9, 1, ""},
+    {"write: a wrong parent before a record that is too deep", 0, GROUP OF_THE_SECOND DEEPEST, 64, 9, 1, ""},
+    {"write: a wrong parent after a record without its padding", 0, UNPADDED STRAY, 64, 9, 0, ""},
+    {"write: a wrong parent, and bytes left over", 0, RECORD STRAY RECORD "00", 64, 9, 1, ""},
+    {"write: a wrong parent, and no room", 0, STRAY, 0, 9, 0, ""},
     {"write: a byte too few", 0, RECORD, 35, 11, 36, ""},
     {"write: an output of length 0", 0, RECORD, 0, 11, 36, ""},
 };
@@ -636,21 +740,79 @@ static void write(const struct written *w) {
     check(w->name, "bytes past the total were changed", all(LENT, out + total, sizeof out - total));
 }
 
+// Refused for this record, and nothing is written.
+static void refuse_parent(const char *name, const uint8_t *table, size_t table_length, size_t index, const uint8_t *pool,
+                          size_t pool_length) {
+    uint8_t out[MOST];
+    uint64_t result[TANDREKILY_RESULT];
+    memset(out, LENT, sizeof out);
+    spoil(TANDREKILY_RESULT, result);
+    tandrekily_write(0, 0, 0, 0, 0, table, table_length, pool, pool_length, out, sizeof out, result);
+    check_refusal(name, TANDREKILY_BAD_TABLE, index, result);
+    check(name, "the output was changed", all(LENT, out, sizeof out));
+}
+
+// What is tried for a parent: each index of the table and one past it, none, and the right one with each of its bits changed.
+static uint32_t parent_tried(uint32_t way, uint32_t records, uint32_t right) {
+    if (way <= records) return way;
+    return way == records + 1 ? TANDREKILY_TOP_LEVEL : right ^ UINT32_C(1) << (way - records - 2);
+}
+
+static void wrong_parents(const char *name, uint8_t *table, uint32_t records, const uint8_t *pool, size_t pool_length) {
+    for (uint32_t i = 0; i < records; i++) {
+        uint8_t *record = table + i * TANDREKILY_RECORD_SIZE;
+        uint32_t right = parent_of(record);
+        for (uint32_t way = 0; way < records + 34; way++) {
+            set_parent(record, parent_tried(way, records, right));
+            if (parent_of(record) == right) continue;
+            refuse_parent(name, table, records * TANDREKILY_RECORD_SIZE, i, pool, pool_length);
+        }
+        set_parent(record, right);
+    }
+}
+
+// 63 groups, each in the one before, and a number in the last: it is read, written back, and each parent is looked at.
+static void deepest(void) {
+    static uint8_t store[64 * TANDREKILY_RECORD_SIZE];
+    uint8_t input[MOST], out[MOST];
+    uint64_t result[TANDREKILY_RESULT];
+    size_t length = bytes_of("01000218 00000000 00000000 00000000 00000000", input);
+    for (int inside = 63; inside > 0; inside--) {
+        length += bytes_of("00000117 00 000000", input + length);
+        input[length - 2] = (uint8_t)((8 * inside + 12) >> 8);
+        input[length - 1] = (uint8_t)(8 * inside + 12);
+    }
+    length += bytes_of("0000010C 00 00000C 000007D1", input + length);
+    tandrekily_message(false, 64, input, length, store, sizeof store, result);
+    check("64 deep", "not as many records", result[TANDREKILY_RECORDS] == 64);
+    check_parents("64 deep", store, 64);
+    tandrekily_write(0, 0, 0, 0, 0, store, sizeof store, input, length, out, sizeof out, result);
+    check("64 deep", "another message comes back", result[TANDREKILY_LENGTH] == length && memcmp(out, input, length) == 0);
+    wrong_parents("64 deep", store, 64, input, length);
+}
+
 // 256 records of 65,536 bytes of data, the same for all, are over 16,777,215 bytes together.
 static void too_long(void) {
     static uint8_t table[256 * TANDREKILY_RECORD_SIZE], pool[65536];
     uint8_t out[1] = {LENT};
     uint64_t result[TANDREKILY_RESULT];
     for (size_t i = 0; i < sizeof table; i += TANDREKILY_RECORD_SIZE)
-        bytes_of("0000002C 00 010008 00000000 00000000 01 01 00 00 00000000 00000000 00000000", table + i);
+        bytes_of("0000002C 00 010008 00000000 00000000 01 01 00 00 00000000 00000000 00000000 FFFFFFFF", table + i);
     spoil(TANDREKILY_RESULT, result);
     tandrekily_write(0, 0, 0, 0, 0, table, sizeof table, pool, sizeof pool, out, sizeof out, result);
     check_refusal("write: over 16,777,215 bytes", 10, 0, result);
     check("write: over 16,777,215 bytes", "the output was changed", out[0] == LENT);
+    set_parent(table + 255 * TANDREKILY_RECORD_SIZE, 254);
+    refuse_parent("write: over 16,777,215 bytes, and a wrong parent", table, sizeof table, 255, pool, sizeof pool);
 }
 
 static void writer(void) {
+    uint8_t table[MOST], pool[MOST];
+    size_t table_length = bytes_of(TREE, table);
+    size_t pool_length = bytes_of(POOL, pool);
     for (size_t i = 0; i < sizeof writes / sizeof *writes; i++) write(&writes[i]);
+    wrong_parents("write: another parent", table, (uint32_t)(table_length / TANDREKILY_RECORD_SIZE), pool, pool_length);
+    deepest();
     too_long();
 }
 
@@ -810,32 +972,32 @@ struct packet_refusal {
 };
 
 static const struct packet_refusal packets_refused[] = {
-    {"RADIUS: empty input", 64, "", 1, 4},
-    {"RADIUS: one byte", 64, "04", 1, 3},
-    {"RADIUS: three bytes", 64, "040700", 1, 1},
-    {"RADIUS: length 0 of 4 bytes", 64, "04070000", 3, 0},
-    {"RADIUS: length 19 of 4 bytes", 64, "04070013", 3, 0},
-    {"RADIUS: length 19", 64, PACKET("0013"), 3, 0},
-    {"RADIUS: length 4097 of 4 bytes", 64, "04071001", 3, 0},
-    {"RADIUS: the largest length", 64, "0407FFFF", 3, 0},
-    {"RADIUS: length 20 of 4 bytes", 64, "04070014", 1, 16},
-    {"RADIUS: length 4096 of 4 bytes", 64, "04071000", 1, 4092},
-    {"RADIUS: length 20 of 19 bytes", 64, "04070014 A0A1A2A3 A4A5A6A7 A8A9AAAB ACADAE", 1, 1},
+    {"RADIUS: empty input", 72, "", 1, 4},
+    {"RADIUS: one byte", 72, "04", 1, 3},
+    {"RADIUS: three bytes", 72, "040700", 1, 1},
+    {"RADIUS: length 0 of 4 bytes", 72, "04070000", 3, 0},
+    {"RADIUS: length 19 of 4 bytes", 72, "04070013", 3, 0},
+    {"RADIUS: length 19", 72, PACKET("0013"), 3, 0},
+    {"RADIUS: length 4097 of 4 bytes", 72, "04071001", 3, 0},
+    {"RADIUS: the largest length", 72, "0407FFFF", 3, 0},
+    {"RADIUS: length 20 of 4 bytes", 72, "04070014", 1, 16},
+    {"RADIUS: length 4096 of 4 bytes", 72, "04071000", 1, 4092},
+    {"RADIUS: length 20 of 19 bytes", 72, "04070014 A0A1A2A3 A4A5A6A7 A8A9AAAB ACADAE", 1, 1},
     {"RADIUS: the last byte is absent, and an attribute is broken", 0, PACKET("0019") "01000000", 1, 1},
-    {"RADIUS: one byte left over", 64, PACKET("0015") "01", 4, 0},
-    {"RADIUS: one byte left over after an attribute", 64, PACKET("001A") NAME "01", 4, 0},
-    {"RADIUS: one byte left over, and the next past the packet", 64, PACKET("0015") "0102", 4, 0},
-    {"RADIUS: an attribute of length 0", 64, PACKET("0016") "0100", 4, 0},
-    {"RADIUS: an attribute of length 1", 64, PACKET("0016") "0101", 4, 0},
-    {"RADIUS: an attribute of length 1 after another", 64, PACKET("001B") NAME "0101", 4, 0},
-    {"RADIUS: an attribute of length 1 with another in its length", 64, PACKET("0017") "010102", 4, 0},
-    {"RADIUS: an attribute a byte too long", 64, PACKET("0018") "0105626F", 4, 0},
-    {"RADIUS: an attribute past the packet, not past the input", 64, PACKET("0018") NAME, 4, 0},
-    {"RADIUS: an attribute of length 255 in 2 bytes", 64, PACKET("0016") "01FF", 4, 0},
+    {"RADIUS: one byte left over", 72, PACKET("0015") "01", 4, 0},
+    {"RADIUS: one byte left over after an attribute", 72, PACKET("001A") NAME "01", 4, 0},
+    {"RADIUS: one byte left over, and the next past the packet", 72, PACKET("0015") "0102", 4, 0},
+    {"RADIUS: an attribute of length 0", 72, PACKET("0016") "0100", 4, 0},
+    {"RADIUS: an attribute of length 1", 72, PACKET("0016") "0101", 4, 0},
+    {"RADIUS: an attribute of length 1 after another", 72, PACKET("001B") NAME "0101", 4, 0},
+    {"RADIUS: an attribute of length 1 with another in its length", 72, PACKET("0017") "010102", 4, 0},
+    {"RADIUS: an attribute a byte too long", 72, PACKET("0018") "0105626F", 4, 0},
+    {"RADIUS: an attribute past the packet, not past the input", 72, PACKET("0018") NAME, 4, 0},
+    {"RADIUS: an attribute of length 255 in 2 bytes", 72, PACKET("0016") "01FF", 4, 0},
     {"RADIUS: no room, and an attribute is broken", 0, PACKET("001B") NAME "0101", 4, 0},
     {"RADIUS: no room", 0, PACKET("0019") NAME, 6, 1},
-    {"RADIUS: room for less than a record", 31, PACKET("0019") NAME, 6, 1},
-    {"RADIUS: room for two of three", 95, PACKET("0023") NAME NAME NAME, 6, 3},
+    {"RADIUS: room for less than a record", 35, PACKET("0019") NAME, 6, 1},
+    {"RADIUS: room for two of three", 107, PACKET("0023") NAME NAME NAME, 6, 3},
 };
 
 // What the library is lent for a packet, and something behind each.
@@ -881,55 +1043,55 @@ static const struct packet packets[] = {
     {"RADIUS: every bit of the header, and a byte more", "FFFE0014 00000000 00000000 00000000 00000000 FF", "",
      {0, 0, 0, 0, 0, 20, 255, 254}},
     {"RADIUS: an attribute past the packet", PACKET("0014") NAME, "", {0, 0, 0, 0, 0, 20, 4, 7}},
-    {"RADIUS: a string", PACKET("0019") NAME, "00000001 00 000005 00000000 00000016 01 01 00 00 00000000 00000000 00000000",
+    {"RADIUS: a string", PACKET("0019") NAME, "00000001 00 000005 00000000 00000016 01 01 00 00 00000000 00000000 00000000 FFFFFFFF",
      {0, 0, 0, 1, 1, 25, 4, 7}},
     {"RADIUS: a string of any bytes", PACKET("0018") "0104FFC0",
-     "00000001 00 000004 00000000 00000016 01 01 00 00 00000000 00000000 00000000", {0, 0, 0, 1, 1, 24, 4, 7}},
+     "00000001 00 000004 00000000 00000016 01 01 00 00 00000000 00000000 00000000 FFFFFFFF", {0, 0, 0, 1, 1, 24, 4, 7}},
     {"RADIUS: a string of no bytes, and a broken attribute past the packet", PACKET("0016") "0102 0101",
-     "00000001 00 000002 00000000 00000016 01 01 00 00 00000000 00000000 00000000", {0, 0, 0, 1, 1, 22, 4, 7}},
+     "00000001 00 000002 00000000 00000016 01 01 00 00 00000000 00000000 00000000 FFFFFFFF", {0, 0, 0, 1, 1, 22, 4, 7}},
     {"RADIUS: a string of 253 bytes", PACKET("0113") "19FF" LETTERS_252 "00",
-     "00000019 00 0000FF 00000000 00000016 01 01 00 00 00000000 00000000 00000000", {0, 0, 0, 1, 1, 275, 4, 7}},
+     "00000019 00 0000FF 00000000 00000016 01 01 00 00 00000000 00000000 00000000 FFFFFFFF", {0, 0, 0, 1, 1, 275, 4, 7}},
     {"RADIUS: Vendor-Specific is any bytes", PACKET("001E") "1A0A 00000009 0104 FF00",
-     "0000001A 00 00000A 00000000 00000016 01 01 00 00 00000000 00000000 00000000", {0, 0, 0, 1, 1, 30, 4, 7}},
+     "0000001A 00 00000A 00000000 00000016 01 01 00 00 00000000 00000000 00000000 FFFFFFFF", {0, 0, 0, 1, 1, 30, 4, 7}},
     {"RADIUS: an integer", PACKET("001A") "0506 80000001",
-     "00000005 00 000006 00000000 00000016 01 04 00 00 00000000 00000000 80000001", {0, 0, 0, 1, 1, 26, 4, 7}},
+     "00000005 00 000006 00000000 00000016 01 04 00 00 00000000 00000000 80000001 FFFFFFFF", {0, 0, 0, 1, 1, 26, 4, 7}},
     {"RADIUS: an integer of 3 bytes", PACKET("0019") "0505 616263",
-     "00000005 00 000005 00000000 00000016 01 00 02 00 00000000 00000000 00000000", {0, 0, 2, 1, 1, 25, 4, 7}},
+     "00000005 00 000005 00000000 00000016 01 00 02 00 00000000 00000000 00000000 FFFFFFFF", {0, 0, 2, 1, 1, 25, 4, 7}},
     {"RADIUS: an integer of 5 bytes", PACKET("001B") "0507 80000001 00",
-     "00000005 00 000007 00000000 00000016 01 00 02 00 00000000 00000000 00000000", {0, 0, 2, 1, 1, 27, 4, 7}},
+     "00000005 00 000007 00000000 00000016 01 00 02 00 00000000 00000000 00000000 FFFFFFFF", {0, 0, 2, 1, 1, 27, 4, 7}},
     {"RADIUS: an integer of no bytes", PACKET("0016") "0502",
-     "00000005 00 000002 00000000 00000016 01 00 02 00 00000000 00000000 00000000", {0, 0, 2, 1, 1, 22, 4, 7}},
+     "00000005 00 000002 00000000 00000016 01 00 02 00 00000000 00000000 00000000 FFFFFFFF", {0, 0, 2, 1, 1, 22, 4, 7}},
     {"RADIUS: an address", PACKET("001A") "0406 C0000210",
-     "00000004 00 000006 00000000 00000016 01 0D 00 00 00000000 00000000 C0000210", {0, 0, 0, 1, 1, 26, 4, 7}},
+     "00000004 00 000006 00000000 00000016 01 0D 00 00 00000000 00000000 C0000210 FFFFFFFF", {0, 0, 0, 1, 1, 26, 4, 7}},
     {"RADIUS: an address with a family", PACKET("001C") "0408 0001 C0000210",
-     "00000004 00 000008 00000000 00000016 01 00 02 00 00000000 00000000 00000000", {0, 0, 2, 1, 1, 28, 4, 7}},
+     "00000004 00 000008 00000000 00000016 01 00 02 00 00000000 00000000 00000000 FFFFFFFF", {0, 0, 2, 1, 1, 28, 4, 7}},
     {"RADIUS: an address of 16 bytes", PACKET("0026") "0412 20010DB8 00000000 00000000 00000001",
-     "00000004 00 000012 00000000 00000016 01 00 02 00 00000000 00000000 00000000", {0, 0, 2, 1, 1, 38, 4, 7}},
+     "00000004 00 000012 00000000 00000016 01 00 02 00 00000000 00000000 00000000 FFFFFFFF", {0, 0, 2, 1, 1, 38, 4, 7}},
     {"RADIUS: a text", PACKET("0018") "1204 C3A9",
-     "00000012 00 000004 00000000 00000016 01 0A 00 00 00000000 00000000 00000000", {0, 0, 0, 1, 1, 24, 4, 7}},
+     "00000012 00 000004 00000000 00000016 01 0A 00 00 00000000 00000000 00000000 FFFFFFFF", {0, 0, 0, 1, 1, 24, 4, 7}},
     {"RADIUS: a text of no bytes", PACKET("0016") "2C02",
-     "0000002C 00 000002 00000000 00000016 01 0A 00 00 00000000 00000000 00000000", {0, 0, 0, 1, 1, 22, 4, 7}},
+     "0000002C 00 000002 00000000 00000016 01 0A 00 00 00000000 00000000 00000000 FFFFFFFF", {0, 0, 0, 1, 1, 22, 4, 7}},
     {"RADIUS: a text that breaks at byte 0", PACKET("0018") "1604 C080",
-     "00000016 00 000004 00000000 00000016 01 00 01 00 00000000 00000000 00000000", {0, 0, 1, 1, 1, 24, 4, 7}},
+     "00000016 00 000004 00000000 00000016 01 00 01 00 00000000 00000000 00000000 FFFFFFFF", {0, 0, 1, 1, 1, 24, 4, 7}},
     {"RADIUS: a text that breaks at byte 252", PACKET("0113") "0BFF" LETTERS_252 "FF",
-     "0000000B 00 0000FF 00000000 00000016 01 00 01 00 00000000 00000000 000000FC", {0, 0, 1, 1, 1, 275, 4, 7}},
+     "0000000B 00 0000FF 00000000 00000016 01 00 01 00 00000000 00000000 000000FC FFFFFFFF", {0, 0, 1, 1, 1, 275, 4, 7}},
     {"RADIUS: a text that the next attribute would complete", PACKET("001B") "2C05 61E282 AC02",
-     "0000002C 00 000005 00000000 00000016 01 00 01 00 00000000 00000000 00000001"
-     "000000AC 00 000002 00000000 0000001B 01 00 00 00 00000000 00000000 00000000",
+     "0000002C 00 000005 00000000 00000016 01 00 01 00 00000000 00000000 00000001 FFFFFFFF"
+     "000000AC 00 000002 00000000 0000001B 01 00 00 00 00000000 00000000 00000000 FFFFFFFF",
      {0, 0, 1, 2, 2, 27, 4, 7}},
     {"RADIUS: letters of a type that the RFCs do not have", PACKET("001A") "5706" LETTERS_4,
-     "00000057 00 000006 00000000 00000016 01 00 00 00 00000000 00000000 00000000", {0, 0, 0, 1, 1, 26, 4, 7}},
+     "00000057 00 000006 00000000 00000016 01 00 00 00 00000000 00000000 00000000 FFFFFFFF", {0, 0, 0, 1, 1, 26, 4, 7}},
     {"RADIUS: flags of the first and of the last are joined", PACKET("0022") "1203 FF" NAME "2903 00 2C03 61",
-     "00000012 00 000003 00000000 00000016 01 00 01 00 00000000 00000000 00000000"
-     "00000001 00 000005 00000000 00000019 01 01 00 00 00000000 00000000 00000000"
-     "00000029 00 000003 00000000 0000001E 01 00 02 00 00000000 00000000 00000000"
-     "0000002C 00 000003 00000000 00000021 01 0A 00 00 00000000 00000000 00000000",
+     "00000012 00 000003 00000000 00000016 01 00 01 00 00000000 00000000 00000000 FFFFFFFF"
+     "00000001 00 000005 00000000 00000019 01 01 00 00 00000000 00000000 00000000 FFFFFFFF"
+     "00000029 00 000003 00000000 0000001E 01 00 02 00 00000000 00000000 00000000 FFFFFFFF"
+     "0000002C 00 000003 00000000 00000021 01 0A 00 00 00000000 00000000 00000000 FFFFFFFF",
      {0, 0, 3, 4, 4, 34, 4, 7}},
     {"RADIUS: the Access-Accept of RFC 2865, section 7.1",
      "02000026 86FE220E 7624BA2A 1005F6BF 9B55E0B2 0606 00000001 0F06 00000000 0E06 C0A80103",
-     "00000006 00 000006 00000000 00000016 01 04 00 00 00000000 00000000 00000001"
-     "0000000F 00 000006 00000000 0000001C 01 04 00 00 00000000 00000000 00000000"
-     "0000000E 00 000006 00000000 00000022 01 0D 00 00 00000000 00000000 C0A80103",
+     "00000006 00 000006 00000000 00000016 01 04 00 00 00000000 00000000 00000001 FFFFFFFF"
+     "0000000F 00 000006 00000000 0000001C 01 04 00 00 00000000 00000000 00000000 FFFFFFFF"
+     "0000000E 00 000006 00000000 00000022 01 0D 00 00 00000000 00000000 C0A80103 FFFFFFFF",
      {0, 0, 0, 3, 3, 38, 2, 0}},
 };
 
@@ -963,6 +1125,7 @@ static void accept_packet(const char *name, const uint8_t *input, size_t length,
         decode_packet(input, length, room);
         check_radius(name, result, lent.result);
         check(name, "the records are others", memcmp(lent.store, records, used) == 0);
+        check_parents(name, lent.store, result[TANDREKILY_RECORDS]);
         check(name, "the store is not zero after the last record", all(0, lent.store + used, spare[i]));
         check(name, "bytes after the store were changed", all(LENT, lent.store + room, BEHIND));
         check(name, "another authenticator", memcmp(lent.authenticator, input + 4, TANDREKILY_AUTHENTICATOR) == 0);
@@ -977,10 +1140,10 @@ static const char radius_kinds[] = "0111D444DD4A44D4"
                                    "111114414444A444"
                                    "4414000000001441";
 
-#define VALUED "00000000 00 000000 00000000 00000016 01 00 00 00 00000000 00000000 6162FF64"
-#define BROKEN "00000000 00 000000 00000000 00000016 01 00 01 00 00000000 00000000 00000002"
-#define OF_NO_LENGTH "00000000 00 000000 00000000 00000016 01 00 02 00 00000000 00000000 00000000"
-#define PLAIN "00000000 00 000000 00000000 00000016 01 00 00 00 00000000 00000000 00000000"
+#define VALUED "00000000 00 000000 00000000 00000016 01 00 00 00 00000000 00000000 6162FF64 FFFFFFFF"
+#define BROKEN "00000000 00 000000 00000000 00000016 01 00 01 00 00000000 00000000 00000002 FFFFFFFF"
+#define OF_NO_LENGTH "00000000 00 000000 00000000 00000016 01 00 02 00 00000000 00000000 00000000 FFFFFFFF"
+#define PLAIN "00000000 00 000000 00000000 00000016 01 00 00 00 00000000 00000000 00000000 FFFFFFFF"
 
 // The record of an attribute whose data are so many bytes of 61 62 FF 64 65, without its code, its length and its kind, which is
 // changed to 0 where the data are not of it.
@@ -1027,7 +1190,7 @@ static void long_packets(void) {
     const size_t most = TANDREKILY_RADIUS_RECORDS;
     for (size_t i = 0; i < most; i++) {
         uint8_t *record = records + i * TANDREKILY_RECORD_SIZE;
-        bytes_of("00000001 00 000002 00000000 00000000 01 01 00 00 00000000 00000000 00000000", record);
+        bytes_of("00000001 00 000002 00000000 00000000 01 01 00 00 00000000 00000000 00000000 FFFFFFFF", record);
         record[TANDREKILY_RECORD_PLACE + 2] = (uint8_t)((22 + 2 * i) >> 8);
         record[TANDREKILY_RECORD_PLACE + 3] = (uint8_t)(22 + 2 * i);
     }
@@ -1063,7 +1226,7 @@ static void check_text(const char *hex, uint64_t valid) {
     length += size;
     input[2] = (uint8_t)(length >> 8);
     input[3] = (uint8_t)length;
-    bytes_of("00000012 00 000000 00000000 00000016 01 0A 00 00 00000000 00000000 00000000", record);
+    bytes_of("00000012 00 000000 00000000 00000016 01 0A 00 00 00000000 00000000 00000000 FFFFFFFF", record);
     record[TANDREKILY_RECORD_LENGTH + 2] = input[21];
     if (broken) bytes_of("00 01", record + TANDREKILY_RECORD_KIND);
     if (broken) record[TANDREKILY_RECORD_VALUE + 7] = (uint8_t)valid;
@@ -1079,8 +1242,8 @@ static void radius_texts(void) {
 }
 
 // The pool is "bob", and this its record.
-#define ATTRIBUTE "00000001 00 000005 00000000 00000000 01 01 00 00 00000000 00000000 00000000"
-#define UNFIT "00000001 00 000005 00000000 00000001 01 01 00 00 00000000 00000000 00000000"
+#define ATTRIBUTE "00000001 00 000005 00000000 00000000 01 01 00 00 00000000 00000000 00000000 FFFFFFFF"
+#define UNFIT "00000001 00 000005 00000000 00000001 01 01 00 00 00000000 00000000 00000000 FFFFFFFF"
 
 struct packet_written {
     const char *name, *table;
@@ -1093,38 +1256,51 @@ static const struct packet_written packets_written[] = {
     {"RADIUS write: no record", "", 20, 0, 0, PACKET("0014")},
     {"RADIUS write: a record", ATTRIBUTE, 25, 0, 0, PACKET("0019") NAME},
     {"RADIUS write: two of the same bytes", ATTRIBUTE ATTRIBUTE, 33, 0, 0, PACKET("001E") NAME NAME},
-    {"RADIUS write: type 0", "00000000 00 000004 00000000 00000001 01 00 00 00 00000000 00000000 00000000", 24, 0, 0,
+    {"RADIUS write: type 0", "00000000 00 000004 00000000 00000001 01 00 00 00 00000000 00000000 00000000 FFFFFFFF", 24, 0, 0,
      PACKET("0018") "00046F62"},
-    {"RADIUS write: type 255", "000000FF 00 000003 00000000 00000002 01 00 00 00 00000000 00000000 00000000", 24, 0, 0,
+    {"RADIUS write: type 255", "000000FF 00 000003 00000000 00000002 01 00 00 00 00000000 00000000 00000000 FFFFFFFF", 24, 0, 0,
      PACKET("0017") "FF0362"},
-    {"RADIUS write: no data at the pool's end", "00000001 00 000002 00000000 00000003 01 01 00 00 00000000 00000000 00000000", 22, 0,
-     0, PACKET("0016") "0102"},
+    {"RADIUS write: no data at the pool's end",
+     "00000001 00 000002 00000000 00000003 01 01 00 00 00000000 00000000 00000000 FFFFFFFF", 22, 0, 0, PACKET("0016") "0102"},
     {"RADIUS write: kind, errors, byte 23 and value are not read",
-     "00000001 00 000005 00000000 00000000 01 FF FF 00 000000FF FFFFFFFF FFFFFFFF", 25, 0, 0, PACKET("0019") NAME},
-    {"RADIUS write: type 256", "00000100 00 000005 00000000 00000000 01 01 00 00 00000000 00000000 00000000", 64, 9, 0, ""},
-    {"RADIUS write: a type of 4 bytes", "01000001 00 000005 00000000 00000000 01 01 00 00 00000000 00000000 00000000", 64, 9, 0, ""},
-    {"RADIUS write: a flag", "00000001 40 000005 00000000 00000000 01 01 00 00 00000000 00000000 00000000", 64, 9, 0, ""},
-    {"RADIUS write: length 0", "00000001 00 000000 00000000 00000002 01 01 00 00 00000000 00000000 00000000", 64, 9, 0, ""},
-    {"RADIUS write: length 1", "00000001 00 000001 00000000 00000001 01 01 00 00 00000000 00000000 00000000", 64, 9, 0, ""},
-    {"RADIUS write: a length whose low byte is good", "00000001 00 010005 00000000 00000000 01 01 00 00 00000000 00000000 00000000",
-     64, 9, 0, ""},
-    {"RADIUS write: a vendor", "00000001 00 000005 00000001 00000000 01 01 00 00 00000000 00000000 00000000", 64, 9, 0, ""},
-    {"RADIUS write: a vendor's first byte", "00000001 00 000005 01000000 00000000 01 01 00 00 00000000 00000000 00000000", 64, 9, 0,
-     ""},
+     "00000001 00 000005 00000000 00000000 01 FF FF 00 000000FF FFFFFFFF FFFFFFFF FFFFFFFF", 25, 0, 0, PACKET("0019") NAME},
+    {"RADIUS write: type 256", "00000100 00 000005 00000000 00000000 01 01 00 00 00000000 00000000 00000000 FFFFFFFF", 64, 9, 0, ""},
+    {"RADIUS write: a type of 4 bytes",
+     "01000001 00 000005 00000000 00000000 01 01 00 00 00000000 00000000 00000000 FFFFFFFF", 64, 9, 0, ""},
+    {"RADIUS write: a flag", "00000001 40 000005 00000000 00000000 01 01 00 00 00000000 00000000 00000000 FFFFFFFF", 64, 9, 0, ""},
+    {"RADIUS write: length 0", "00000001 00 000000 00000000 00000002 01 01 00 00 00000000 00000000 00000000 FFFFFFFF", 64, 9, 0, ""},
+    {"RADIUS write: length 1", "00000001 00 000001 00000000 00000001 01 01 00 00 00000000 00000000 00000000 FFFFFFFF", 64, 9, 0, ""},
+    {"RADIUS write: a length whose low byte is good",
+     "00000001 00 010005 00000000 00000000 01 01 00 00 00000000 00000000 00000000 FFFFFFFF", 64, 9, 0, ""},
+    {"RADIUS write: a vendor", "00000001 00 000005 00000001 00000000 01 01 00 00 00000000 00000000 00000000 FFFFFFFF", 64, 9, 0, ""},
+    {"RADIUS write: a vendor's first byte",
+     "00000001 00 000005 01000000 00000000 01 01 00 00 00000000 00000000 00000000 FFFFFFFF", 64, 9, 0, ""},
     {"RADIUS write: a vendor and a place that would wrap",
-     "00000001 00 000005 FFFFFFFF FFFFFFFF 01 01 00 00 00000000 00000000 00000000", 64, 9, 0, ""},
+     "00000001 00 000005 FFFFFFFF FFFFFFFF 01 01 00 00 00000000 00000000 00000000 FFFFFFFF", 64, 9, 0, ""},
     {"RADIUS write: data a byte past the pool", UNFIT, 64, 9, 0, ""},
-    {"RADIUS write: no data past the pool", "00000001 00 000002 00000000 00000004 01 01 00 00 00000000 00000000 00000000", 64, 9, 0,
-     ""},
-    {"RADIUS write: the largest place", "00000001 00 000005 00000000 FFFFFFFF 01 01 00 00 00000000 00000000 00000000", 64, 9, 0, ""},
-    {"RADIUS write: a place whose low bytes are good", "00000001 00 000005 00000000 00010000 01 01 00 00 00000000 00000000 00000000",
-     64, 9, 0, ""},
-    {"RADIUS write: depth 0", "00000001 00 000005 00000000 00000000 00 01 00 00 00000000 00000000 00000000", 64, 9, 0, ""},
-    {"RADIUS write: depth 2", "00000001 00 000005 00000000 00000000 02 01 00 00 00000000 00000000 00000000", 64, 9, 0, ""},
-    {"RADIUS write: a byte of padding", "00000001 00 000005 00000000 00000000 01 01 00 01 00000000 00000000 00000000", 64, 9, 0, ""},
-    {"RADIUS write: the first pad", "00000001 00 000005 00000000 00000000 01 01 00 00 01000000 00000000 00000000", 64, 9, 0, ""},
-    {"RADIUS write: the second pad", "00000001 00 000005 00000000 00000000 01 01 00 00 00010000 00000000 00000000", 64, 9, 0, ""},
-    {"RADIUS write: the third pad", "00000001 00 000005 00000000 00000000 01 01 00 00 00000100 00000000 00000000", 64, 9, 0, ""},
+    {"RADIUS write: no data past the pool",
+     "00000001 00 000002 00000000 00000004 01 01 00 00 00000000 00000000 00000000 FFFFFFFF", 64, 9, 0, ""},
+    {"RADIUS write: the largest place",
+     "00000001 00 000005 00000000 FFFFFFFF 01 01 00 00 00000000 00000000 00000000 FFFFFFFF", 64, 9, 0, ""},
+    {"RADIUS write: a place whose low bytes are good",
+     "00000001 00 000005 00000000 00010000 01 01 00 00 00000000 00000000 00000000 FFFFFFFF", 64, 9, 0, ""},
+    {"RADIUS write: depth 0", "00000001 00 000005 00000000 00000000 00 01 00 00 00000000 00000000 00000000 FFFFFFFF", 64, 9, 0, ""},
+    {"RADIUS write: depth 2", "00000001 00 000005 00000000 00000000 02 01 00 00 00000000 00000000 00000000 FFFFFFFF", 64, 9, 0, ""},
+    {"RADIUS write: a byte of padding",
+     "00000001 00 000005 00000000 00000000 01 01 00 01 00000000 00000000 00000000 FFFFFFFF", 64, 9, 0, ""},
+    {"RADIUS write: the first pad",
+     "00000001 00 000005 00000000 00000000 01 01 00 00 01000000 00000000 00000000 FFFFFFFF", 64, 9, 0, ""},
+    {"RADIUS write: the second pad",
+     "00000001 00 000005 00000000 00000000 01 01 00 00 00010000 00000000 00000000 FFFFFFFF", 64, 9, 0, ""},
+    {"RADIUS write: the third pad",
+     "00000001 00 000005 00000000 00000000 01 01 00 00 00000100 00000000 00000000 FFFFFFFF", 64, 9, 0, ""},
+    {"RADIUS write: parent 0", "00000001 00 000005 00000000 00000000 01 01 00 00 00000000 00000000 00000000 00000000", 64, 9, 0, ""},
+    {"RADIUS write: the record before as a parent",
+     ATTRIBUTE ATTRIBUTE "00000001 00 000005 00000000 00000000 01 01 00 00 00000000 00000000 00000000 00000001", 64, 9, 2, ""},
+    {"RADIUS write: a parent whose low bytes are the mark's",
+     "00000001 00 000005 00000000 00000000 01 01 00 00 00000000 00000000 00000000 0000FFFF", 64, 9, 0, ""},
+    {"RADIUS write: a parent whose high bytes are the mark's",
+     "00000001 00 000005 00000000 00000000 01 01 00 00 00000000 00000000 00000000 FFFFFFFE", 64, 9, 0, ""},
     {"RADIUS write: the second record of three", ATTRIBUTE UNFIT ATTRIBUTE, 64, 9, 1, ""},
     {"RADIUS write: two bad records", UNFIT UNFIT, 0, 9, 0, ""},
     {"RADIUS write: bytes left over", ATTRIBUTE ATTRIBUTE "00", 64, 9, 2, ""},
@@ -1157,7 +1333,7 @@ static void write_packet(const char *name, const uint8_t *table, size_t table_le
 static size_t long_table(size_t records, uint32_t length, const char *last, uint8_t *table) {
     size_t used = records * TANDREKILY_RECORD_SIZE;
     for (size_t i = 0; i < used; i += TANDREKILY_RECORD_SIZE) {
-        bytes_of("00000012 00 000000 00000000 00000000 01 0A 00 00 00000000 00000000 00000000", table + i);
+        bytes_of("00000012 00 000000 00000000 00000000 01 0A 00 00 00000000 00000000 00000000 FFFFFFFF", table + i);
         table[i + TANDREKILY_RECORD_LENGTH + 1] = (uint8_t)(length >> 8);
         table[i + TANDREKILY_RECORD_LENGTH + 2] = (uint8_t)length;
     }
@@ -1188,8 +1364,8 @@ static void write_long(const char *name, size_t records, uint32_t length, const 
 }
 
 // 15 records of 255 bytes and one of 251 are 4,096 with the header.
-#define OF_251 "00000012 00 0000FB 00000000 00000000 01 0A 00 00 00000000 00000000 00000000"
-#define OF_252 "00000012 00 0000FC 00000000 00000000 01 0A 00 00 00000000 00000000 00000000"
+#define OF_251 "00000012 00 0000FB 00000000 00000000 01 0A 00 00 00000000 00000000 00000000 FFFFFFFF"
+#define OF_252 "00000012 00 0000FC 00000000 00000000 01 0A 00 00 00000000 00000000 00000000 FFFFFFFF"
 
 static void radius_writer(void) {
     uint8_t table[MOST], pool[MOST], packet[MOST];
@@ -1211,6 +1387,7 @@ static void radius_writer(void) {
 
 int main(void) {
     decoders();
+    long_group();
     editions();
     headers();
     searches();

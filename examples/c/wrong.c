@@ -37,22 +37,26 @@ typedef void radius_writer(uint8_t, uint8_t, const uint8_t *, const uint8_t *, s
                            uint64_t *);
 radius_writer __real_tandrekily_radius_write, __wrap_tandrekily_radius_write;
 
-// Each function's ways to be wrong are numbered from a hundred of its own; the first are the numbers of its result or outline.
+// Each function's ways to be wrong are numbered from a hundred of its own, and RADIUS has two of them; the first are the numbers of
+// its result or outline.
 enum { MESSAGE = 100, AVP = 200, HEADER = 300, WRITE = 400, IS_UTF8 = 500, UNIX_SECONDS = 600, FIND = 700, NEXT = 800 };
 enum { MESSAGE_BY = 900, AVP_BY = 1000, INTEGER32 = 1100, INTEGER64 = 1200, COMPARE = 1300, UTF8 = 1400 };
-enum { RADIUS = 1500, RADIUS_WRITE = 1600 };
+enum { RADIUS = 1500, RADIUS_WRITE = 1700 };
 enum { TOUCHED_IF_REFUSED = 20, TAIL_IF_ACCEPTED = 21, OTHER_READING = 22, OTHER_LIMIT = 23, BYTE = 40 };
 enum { OTHER_CODE = 24, LAST = 25, NONE_IF_NOT_TILED = 26, NOT_TILED_IF_NONE = 27 };
 enum { STAYS = 28, FURTHER = 29, LATER = 30 };
 enum { OTHER_EDITION = 31, ANY_EDITION, LOW_BITS, EDITION_BEFORE_LIMIT, INPUT_BEFORE_EDITION, NO_EDITION, SIGN_EXTENDED };
-enum { NO_BREAK = 72, BREAK_IN_A_BYTE, BREAK_IN_INPUT, BREAK_OF_GROUP, BREAK_OF_LENGTH, BREAK_OF_UNKNOWN };
+enum { NO_BREAK = 76, BREAK_IN_A_BYTE, BREAK_IN_INPUT, BREAK_OF_GROUP, BREAK_OF_LENGTH, BREAK_OF_UNKNOWN };
+enum { ZERO_FOR_MARK = 82, RECORD_BEFORE, PARENT_OF_BEFORE, FIRST_OF_DEPTH, WITHIN_GROUP, ALWAYS_MARK, FROM_ONE, IN_TWO_BYTES };
+enum { ANY_PARENT = 82, ZERO_TAKEN, MARK_TAKEN, BEFORE_TAKEN, EARLIER_TAKEN, LOW_BYTES_TAKEN };
+enum { PARENTS_FIRST = 88, PARENTS_LAST, NO_LONG_INDEX };
 enum { A_SECOND_LATE, OLD_RULE, OTHER_WAY, SHORT_AT_THE_TURN, IN_32_BITS };
 enum { OFF_BY_ONE, NO_SIGN };
 enum { ONE_MORE, ONE_LESS, NOTHING, ALL, NOTHING_IF_BROKEN, NOTHING_IF_WELL_FORMED, CHARACTERS, EIGHTS, BROKEN_ONE_TOO };
 enum { REST_TOO = 9, SURROGATES_TOO, OVERLONG_TOO, LOW_BYTE };
 enum { OTHER_ANSWER, OPPOSITE, NEVER_EQUAL, ORDER_IF_REFUSED, TAKES_19, TAKES_MINUS_19, REFUSES_18, REFUSES_MINUS_18 };
 enum { EXPONENT_LOW_BITS = 8, NO_EXPONENTS, FIRST_ALONE, SECOND_ALONE, ZEROS_TAKEN, SIGNS_TAKEN, DOUBLES, WRAPPED, WHOLE };
-enum { RESULT_TOO_LONG = 78, AUTHENTICATOR_TOO_LONG, AUTHENTICATOR_BYTE, AUTHENTICATOR_IF_REFUSED = 96 };
+enum { RESULT_TOO_LONG = 91, AUTHENTICATOR_TOO_LONG, AUTHENTICATOR_IF_REFUSED, AUTHENTICATOR_BYTE = 100 };
 enum { HEADER_FIRST = 8, NO_LEAST, NO_MOST, MOST_4095, SURPLUS_REFUSED, SURPLUS_READ, LEFT_OVER_TAKEN, ROOM_FIRST, LONG_NUMBERS };
 enum { NAME_IS_TEXT = 22, SESSION_IS_STRING, UNKNOWN_IS_STRING, LOW_BITS_OF_TYPE, FIRST_FLAGS, LAST_FLAGS, SECOND_RECORD };
 enum { ANY_TYPE = 8, ANY_LENGTH, NO_LEAST_LENGTH, ANY_DEPTH, ANY_FLAGS, ANY_VENDOR, ANY_PADDING, ANY_PADS, ANY_PLACE, PLACE_LOW_BITS };
@@ -111,10 +115,58 @@ static void spoil_breaks(int way, size_t head, uint8_t *store, uint64_t records,
     }
 }
 
+// ---- parents
+
+static uint32_t parent_at(const uint8_t *table, size_t index) {
+    return (uint32_t)number_at(table + index * TANDREKILY_RECORD_SIZE + TANDREKILY_RECORD_PARENT, 4);
+}
+
+static void set_parent(uint8_t *table, size_t index, uint32_t parent) {
+    uint8_t *at = table + index * TANDREKILY_RECORD_SIZE + TANDREKILY_RECORD_PARENT;
+    for (int i = 0; i < 4; i++) at[i] = (uint8_t)(parent >> (24 - 8 * i));
+}
+
+static uint8_t depth_at(const uint8_t *table, size_t index) {
+    return table[index * TANDREKILY_RECORD_SIZE + TANDREKILY_RECORD_DEPTH];
+}
+
+// The first record of the table that is one depth less than this one.
+static uint32_t first_of_depth(const uint8_t *table, size_t index) {
+    uint32_t first = 0;
+    while (depth_at(table, first) + 1 != depth_at(table, index)) first++;
+    return first;
+}
+
+// The parent as counted from the first member of the group that it is in itself.
+static uint32_t within_group(const uint8_t *table, uint32_t parent) {
+    uint32_t group = parent_at(table, parent);
+    return group == TANDREKILY_TOP_LEVEL ? parent : parent - group - 1;
+}
+
+// What this way has for a record's parent. The earlier records still have the right ones.
+static uint32_t parent_said(int way, const uint8_t *table, size_t index) {
+    uint32_t parent = parent_at(table, index);
+    if (way == ALWAYS_MARK) return TANDREKILY_TOP_LEVEL;
+    if (way == PARENT_OF_BEFORE && index > 0) return parent_at(table, index - 1);
+    if (parent == TANDREKILY_TOP_LEVEL) return way == ZERO_FOR_MARK ? 0 : parent;
+    if (way == RECORD_BEFORE) return (uint32_t)index - 1;
+    if (way == FIRST_OF_DEPTH) return first_of_depth(table, index);
+    if (way == WITHIN_GROUP) return within_group(table, parent);
+    if (way == IN_TWO_BYTES) return (uint16_t)parent;
+    return parent + (way == FROM_ONE);
+}
+
+static void spoil_parents(int way, uint8_t *store, uint64_t records) {
+    for (size_t i = (size_t)records; i-- > 0;) set_parent(store, i, parent_said(way, store, i));
+}
+
+// ---- the decoders
+
 static void spoil_decoder(int way, decoder *decode, bool rfc, size_t limit, const uint8_t *input, size_t n, uint8_t *store,
                           size_t room, uint64_t *result) {
     decode(rfc ^ (way == OTHER_READING), limit + (way == OTHER_LIMIT), input, n, store, room, result);
     spoil_breaks(way, TANDREKILY_AVP_HEAD, store, result[TANDREKILY_RECORDS], input);
+    spoil_parents(way, store, result[TANDREKILY_RECORDS]);
     size_t used = (size_t)result[TANDREKILY_RECORDS] * TANDREKILY_RECORD_SIZE;
     spoil_bytes(way, result[TANDREKILY_NUMBER] == TANDREKILY_ACCEPTED, store, room, used);
     spoil_result(way, result);
@@ -165,13 +217,56 @@ size_t __wrap_tandrekily_next(const uint8_t *message, size_t n, size_t place, ui
     return past;
 }
 
+// ---- the writer
+
+enum { TABLE_MOST = 65540 * TANDREKILY_RECORD_SIZE };
+
+// Is this parent taken, though `right` is the one that the depths tell?
+static bool takes_parent(int way, const uint8_t *table, size_t index, uint32_t right) {
+    uint32_t parent = parent_at(table, index);
+    if (way == ANY_PARENT || way == PARENTS_LAST) return true;
+    if (way == ZERO_TAKEN) return parent == 0 && right == TANDREKILY_TOP_LEVEL;
+    if (way == MARK_TAKEN) return parent == TANDREKILY_TOP_LEVEL;
+    if (way == BEFORE_TAKEN) return parent + 1 == index;
+    if (way == EARLIER_TAKEN) return parent < index && depth_at(table, parent) + 1 == depth_at(table, index);
+    return way == LOW_BYTES_TAKEN && (uint16_t)parent == (uint16_t)right;
+}
+
+// Puts the right parent where another is taken. Returns how many records there are before the first with another.
+static size_t forgive_parents(int way, uint8_t *table, size_t records) {
+    uint32_t last[256];
+    size_t told = records;
+    memset(last, 0xFF, sizeof last);
+    for (size_t i = 0; i < records; i++) {
+        uint8_t depth = depth_at(table, i);
+        uint32_t right = depth > 1 ? last[depth - 1] : TANDREKILY_TOP_LEVEL;
+        if (way == NO_LONG_INDEX && depth > 1 && right > UINT16_MAX) set_parent(table, i, right ^ 1);
+        if (parent_at(table, i) != right && told == records) told = i;
+        if (takes_parent(way, table, i, right)) set_parent(table, i, right);
+        last[depth] = (uint32_t)i;
+    }
+    return told;
+}
+
 void __wrap_tandrekily_write(uint8_t flags, uint32_t code, uint32_t app, uint32_t hop, uint32_t end, const uint8_t *table,
                              size_t table_length, const uint8_t *pool, size_t pool_length, uint8_t *out, size_t room,
                              uint64_t *result) {
-    __real_tandrekily_write(flags, code, app, hop, end, table, table_length, pool, pool_length, out, room, result);
-    spoil_bytes(wrong(WRITE), result[TANDREKILY_NUMBER] == TANDREKILY_ACCEPTED, out, room, (size_t)result[TANDREKILY_LENGTH]);
-    spoil_result(wrong(WRITE), result);
+    static uint8_t asked[TABLE_MOST];
+    int way = wrong(WRITE);
+    size_t records = table_length / TANDREKILY_RECORD_SIZE;
+    memcpy(asked, table, table_length);
+    size_t told = forgive_parents(way, asked, records);
+    __real_tandrekily_write(flags, code, app, hop, end, asked, table_length, pool, pool_length, out, way == PARENTS_LAST ? 0 : room,
+                            result);
+    bool bad = result[TANDREKILY_NUMBER] == TANDREKILY_BAD_TABLE;
+    if (way == PARENTS_FIRST && bad && told < records) result[TANDREKILY_AMOUNT] = told;
+    if (way == PARENTS_LAST && !bad)
+        __real_tandrekily_write(flags, code, app, hop, end, table, table_length, pool, pool_length, out, room, result);
+    spoil_bytes(way, result[TANDREKILY_NUMBER] == TANDREKILY_ACCEPTED, out, room, (size_t)result[TANDREKILY_LENGTH]);
+    spoil_result(way, result);
 }
+
+// ---- values
 
 bool __wrap_tandrekily_is_utf8(const uint8_t *text, size_t n) {
     return __real_tandrekily_is_utf8(text, n) ^ (wrong(IS_UTF8) == 0);
@@ -275,6 +370,7 @@ static void spoil_decoder_by(int way, decoder_by *decode_by, decoder *decode, ui
     else decode_by(edition_asked(way, edition, n), limit, input, n, store, room, result);
     if (way == SIGN_EXTENDED) extend_signs(store, result[TANDREKILY_RECORDS]);
     spoil_breaks(way, TANDREKILY_AVP_HEAD, store, result[TANDREKILY_RECORDS], input);
+    spoil_parents(way, store, result[TANDREKILY_RECORDS]);
     size_t used = (size_t)result[TANDREKILY_RECORDS] * TANDREKILY_RECORD_SIZE;
     spoil_bytes(way, result[TANDREKILY_NUMBER] == TANDREKILY_ACCEPTED, store, room, used);
     spoil_result(way, result);
@@ -372,7 +468,7 @@ uint8_t __wrap_tandrekily_compare(int64_t digits, int32_t exponent, int64_t othe
 
 // ---- RADIUS
 
-enum { PACKET_MOST = 4096, PACKET_HEADER = 20, TABLE_MOST = 2048 * TANDREKILY_RECORD_SIZE };
+enum { PACKET_MOST = 4096, PACKET_HEADER = 20 };
 
 static void spoil_radius(int way, uint64_t *result) {
     if (way >= 0 && way < TANDREKILY_RADIUS_RESULT) result[way] ^= 1;
@@ -469,6 +565,7 @@ void __wrap_tandrekily_radius(const uint8_t *input, size_t n, uint8_t *store, si
     bool accepted = result[TANDREKILY_NUMBER] == TANDREKILY_ACCEPTED;
     spoil_records(way, store, input, result);
     spoil_breaks(way, TANDREKILY_ATTRIBUTE_HEAD, store, result[TANDREKILY_RECORDS], input);
+    spoil_parents(way, store, result[TANDREKILY_RECORDS]);
     spoil_bytes(way, accepted, store, room, (size_t)result[TANDREKILY_RECORDS] * TANDREKILY_RECORD_SIZE);
     spoil_authenticator(way, accepted, authenticator);
     spoil_radius(way, result);
@@ -494,6 +591,12 @@ static void forgive_place(int way, size_t end, size_t pool_length, uint8_t *plac
     if (way == PLACE_LOW_BITS) memset(place, 0, 2);
 }
 
+static void forgive_parent(int way, uint8_t *parent) {
+    bool zero = number_at(parent, 4) == 0;
+    if (way == ANY_PARENT || (way == ZERO_TAKEN && zero)) memset(parent, 0xFF, 4);
+    if (way == LOW_BYTES_TAKEN) memset(parent, 0xFF, 2);
+}
+
 // Makes what breaks the rule that this way does not know keep it; what it should not read makes it break one.
 static void forgive(int way, size_t pool_length, uint8_t *record) {
     uint8_t *place = record + TANDREKILY_RECORD_PLACE;
@@ -506,6 +609,7 @@ static void forgive(int way, size_t pool_length, uint8_t *record) {
     if (way == ANY_PADS) memset(record + TANDREKILY_RECORD_PADS, 0, 3);
     if (reads_more(way, record)) record[TANDREKILY_RECORD_DEPTH] = 0;
     forgive_length(way, record + TANDREKILY_RECORD_LENGTH);
+    forgive_parent(way, record + TANDREKILY_RECORD_PARENT);
     forgive_place(way, number_at(place, 4) + size, pool_length, place);
 }
 

@@ -27,6 +27,28 @@
 //! # Ok::<(), tandrekily::Refusal>(())
 //! ```
 //!
+//! # Groups
+//!
+//! A group stands before its members, and each member has the [index](Record::parent) of its group: [`Avp::parent`] gives the group of
+//! an AVP without a search. A walk up gives its path:
+//!
+//! ```
+//! use core::iter::successors;
+//! use tandrekily::{decode, Limits, Reading, Record};
+//!
+//! // A header, and a Result-Code in a Proxy-Info in a Failed-AVP.
+//! let message = b"\x01\0\0\x30\0\0\0\0\0\0\0\0\0\0\0\0\0\0\0\0\
+//!     \0\0\x01\x17\0\0\0\x1C\
+//!     \0\0\x01\x1C\0\0\0\x14\
+//!     \0\0\x01\x0C\0\0\0\x0C\0\0\x07\xD1";
+//! let mut store = [0; 4 * Record::SIZE];
+//! let decoded = decode(message, Reading::Rfc, Limits::default(), &mut store)?;
+//!
+//! let path = successors(decoded.records().last(), |avp| avp.parent());
+//! assert!(path.map(|avp| avp.record.code).eq([268, 284, 279]));
+//! # Ok::<(), tandrekily::Refusal>(())
+//! ```
+//!
 //! # Credit-control
 //!
 //! By an [`Edition`] the codes of RFC 4006 or RFC 8506 are read too, with [`decode_by`] and [`decode_avp_by`]. Two amounts are
@@ -361,7 +383,8 @@ pub fn header(input: &[u8]) -> Result<(Header, u8), Refusal> {
 /// - the kind is one of [`kinds`], and the vendor is 0 without the 'V' bit;
 /// - a group has no padding; its place and length are not looked at;
 /// - any other AVP has a length of at least its header's size, its data are within the pool, and its padding count is what
-///   fills the data to a multiple of 4, with unused padding bytes 0.
+///   fills the data to a multiple of 4, with unused padding bytes 0;
+/// - the parent is the index of the last earlier record that is one less deep, and None at depth 1.
 ///
 /// Error flags and bits are not looked at.
 pub fn write(fields: Fields, table: &[u8], pool: &[u8], out: &mut [u8]) -> Result<usize, Refusal> {

@@ -2,8 +2,8 @@
 //!
 //! A packet is decoded as a message is, into [`Record`]s in memory that the caller lends, one for each attribute: its
 //! [`code`](Record::code) is the attribute's type, its [`length`](Record::length) has the header's 2 bytes in it, its
-//! [`depth`](Record::depth) is 1, and flags, vendor and padding are 0. The iterator, the [`Value`](crate::Value)s and the
-//! [`Refusal`]s are those of messages.
+//! [`depth`](Record::depth) is 1, it has no [`parent`](Record::parent), and flags, vendor and padding are 0. The iterator, the
+//! [`Value`](crate::Value)s and the [`Refusal`]s are those of messages.
 //!
 //! ```
 //! use tandrekily::{radius, Record, Value};
@@ -150,7 +150,7 @@ pub fn records<'a>(table: &'a [u8], input: &'a [u8]) -> Records<'a> {
 /// A table is a row of [`Record`]s with nothing left over, in which
 ///
 /// - the code is at most 255, and the length 2 to 255, with the header in it;
-/// - the depth is 1, and flags, vendor, padding count and padding are 0;
+/// - the depth is 1, the parent None, and flags, vendor, padding count and padding are 0;
 /// - the data are within the pool, and data of no bytes stand no further than at its end.
 ///
 /// Kind, error flags and bits are not looked at.

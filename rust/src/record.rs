@@ -34,6 +34,9 @@ pub struct Record {
     /// The value where it is a number or an IPv4 address, as its bits. Of ill-formed text, which is
     /// [`UNHANDLED`](crate::kinds::UNHANDLED), at which byte of the data it broke. Else 0. [`Value`] says what they mean.
     pub bits: u64,
+    /// The index in the table of the group that the AVP is a member of: the last earlier record that is one less deep. At depth 1 it is
+    /// None. [`Avp::parent`] gives the group itself.
+    pub parent: Option<u32>,
 }
 
 /// A big-endian number of up to 8 bytes.
@@ -86,7 +89,10 @@ pub(crate) fn data_at(
 
 impl Record {
     /// How many bytes a record has in the table.
-    pub const SIZE: usize = 32;
+    pub const SIZE: usize = 36;
+
+    /// What stands in a row for a parent of None, so no index is as large.
+    pub const TOP_LEVEL: u32 = u32::MAX;
 
     /// The 'V' bit.
     pub const VENDOR_SPECIFIC_FLAG: u8 = 0b1000_0000;
@@ -100,7 +106,7 @@ impl Record {
     /// The bits that are reserved.
     pub const RESERVED_MASK: u8 = 0b0001_1111;
 
-    /// The record of a row of the table. Any 32 bytes are a record; byte 23 is not looked at.
+    /// The record of a row of the table. Any 36 bytes are a record; byte 23 is not looked at.
     pub fn from_bytes(row: &[u8; Self::SIZE]) -> Record {
         Record {
             code: number(&row[0..4]) as u32,
@@ -114,6 +120,7 @@ impl Record {
             padding: row[19],
             pads: [row[20], row[21], row[22]],
             bits: number(&row[24..32]),
+            parent: Some(number(&row[32..36]) as u32).filter(|&index| index != Self::TOP_LEVEL),
         }
     }
 
@@ -131,6 +138,8 @@ impl Record {
         row[19] = self.padding;
         row[20..23].copy_from_slice(&self.pads);
         row[24..32].copy_from_slice(&self.bits.to_be_bytes());
+        let parent = self.parent.unwrap_or(Self::TOP_LEVEL);
+        row[32..36].copy_from_slice(&parent.to_be_bytes());
         row
     }
 
@@ -171,6 +180,8 @@ impl Record {
 pub struct Avp<'a> {
     /// The row of the table.
     pub record: Record,
+    /// The rows before it.
+    earlier: &'a [u8],
     format: Format,
     input: &'a [u8],
 }
@@ -185,12 +196,43 @@ impl<'a> Avp<'a> {
     pub fn value(&self) -> Value<'a> {
         Value::of(&self.record, self.format, self.input)
     }
+
+    /// The group that the AVP is a member of, by one look into the table. None at the top level.
+    ///
+    /// A parent that isn't an earlier row, as a table that isn't the decoder's may have, is None too: a walk up always ends.
+    ///
+    /// ```
+    /// use tandrekily::{decode_avp, Limits, Reading, Record};
+    ///
+    /// // A Failed-AVP with a Result-Code in it.
+    /// let avp = b"\0\0\x01\x17\x40\0\0\x14\0\0\x01\x0C\x40\0\0\x0C\0\0\x07\xD1";
+    /// let mut store = [0; 2 * Record::SIZE];
+    /// let decoded = decode_avp(avp, Reading::Rfc, Limits::default(), &mut store)?;
+    ///
+    /// let result_code = decoded.records().last().unwrap();
+    /// let failed_avp = result_code.parent().unwrap();
+    /// assert_eq!(failed_avp.record.code, 279);
+    /// assert!(failed_avp.parent().is_none());
+    /// # Ok::<(), tandrekily::Refusal>(())
+    /// ```
+    pub fn parent(&self) -> Option<Avp<'a>> {
+        let start = (self.record.parent? as usize).checked_mul(Record::SIZE)?;
+        let (earlier, rows) = self.earlier.split_at_checked(start)?;
+        Some(Avp {
+            record: Record::from_bytes(rows.first_chunk()?),
+            earlier,
+            ..*self
+        })
+    }
 }
 
 /// An iterator over the AVPs or attributes of a table, each group before its members.
 #[derive(Clone, Debug)]
 pub struct Records<'a> {
+    /// All rows but those that were given from the back.
     table: &'a [u8],
+    /// Where the rows that are left start.
+    start: usize,
     format: Format,
     input: &'a [u8],
 }
@@ -207,6 +249,7 @@ impl<'a> Records<'a> {
         let whole = table.len() - table.len() % Record::SIZE;
         Records {
             table: &table[..whole],
+            start: 0,
             format,
             input,
         }
@@ -214,12 +257,13 @@ impl<'a> Records<'a> {
 
     /// The rows that are left to iterate over, as [`write`](crate::write) takes them.
     pub fn as_bytes(&self) -> &'a [u8] {
-        self.table
+        &self.table[self.start..]
     }
 
-    fn avp(&self, row: &[u8; Record::SIZE]) -> Avp<'a> {
+    fn avp(&self, earlier: &'a [u8], row: &[u8; Record::SIZE]) -> Avp<'a> {
         Avp {
             record: Record::from_bytes(row),
+            earlier,
             format: self.format,
             input: self.input,
         }
@@ -230,22 +274,23 @@ impl<'a> Iterator for Records<'a> {
     type Item = Avp<'a>;
 
     fn next(&mut self) -> Option<Avp<'a>> {
-        let (row, rest) = self.table.split_first_chunk()?;
-        self.table = rest;
-        Some(self.avp(row))
+        let (earlier, left) = self.table.split_at(self.start);
+        let row = left.first_chunk()?;
+        self.start += Record::SIZE;
+        Some(self.avp(earlier, row))
     }
 
     fn size_hint(&self) -> (usize, Option<usize>) {
-        let left = self.table.len() / Record::SIZE;
+        let left = self.as_bytes().len() / Record::SIZE;
         (left, Some(left))
     }
 }
 
 impl DoubleEndedIterator for Records<'_> {
     fn next_back(&mut self) -> Option<Self::Item> {
-        let (rest, row) = self.table.split_last_chunk()?;
-        self.table = rest;
-        Some(self.avp(row))
+        let row = self.as_bytes().last_chunk()?;
+        self.table = &self.table[..self.table.len() - Record::SIZE];
+        Some(self.avp(self.table, row))
     }
 }
 

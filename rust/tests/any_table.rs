@@ -2,14 +2,17 @@
 
 mod random;
 
+use std::iter::successors;
+
 use random::Random;
 use tandrekily::{kinds, Avp, Reading, Record, Records, Value};
 
-/// Rows of any bytes: half of them with lengths, places and bits that are near the input, which else would be met too seldom.
+/// Rows of any bytes: half of them with lengths, places and bits that are near the input, and parents near the table's front, which
+/// else would be met too seldom.
 fn any_row(random: &mut Random) -> [u8; Record::SIZE] {
     let mut row = [0; Record::SIZE];
-    for chunk in row.chunks_mut(8) {
-        chunk.copy_from_slice(&random.next().to_be_bytes());
+    for chunk in row.chunks_mut(4) {
+        chunk.copy_from_slice(&random.next().to_be_bytes()[..4]);
     }
     row[17] %= 16;
     if random.next() % 2 == 0 {
@@ -17,6 +20,7 @@ fn any_row(random: &mut Random) -> [u8; Record::SIZE] {
         row[5..8].copy_from_slice(&[0, 0, length]);
         row[12..16].copy_from_slice(&[0, 0, 0, place]);
         row[24..32].copy_from_slice(&u64::from(bits).to_be_bytes());
+        row[32..35].fill(0);
     }
     row
 }
@@ -57,6 +61,25 @@ fn no_text_breaks_outside_its_data() {
     assert!(records.any(|avp| broken_at(&avp) > 0));
 }
 
+/// Any other number is taken for none, so a walk up ends.
+#[test]
+fn a_parent_is_an_earlier_row() {
+    let mut random = Random(8);
+    let table: Vec<u8> = (0..20_000).flat_map(|_| any_row(&mut random)).collect();
+    let records = Records::new(&table, Reading::Rfc, &[]);
+    let rows: Vec<Record> = records.clone().map(|avp| avp.record).collect();
+    let mut groups = 0;
+    for (index, avp) in records.enumerate() {
+        let parent = avp.record.parent.map(|parent| parent as usize);
+        let group = parent.and_then(|parent| rows[..index].get(parent));
+        assert_eq!(avp.parent().map(|avp| avp.record), group.copied());
+        let path = successors(Some(avp), Avp::parent).take(index + 2);
+        assert!(path.count() <= index + 1, "{:?}", avp.record);
+        groups += usize::from(group.is_some());
+    }
+    assert!((1_000..19_000).contains(&groups), "{groups} have a parent");
+}
+
 /// Byte 23 is always 0 and has no field.
 #[test]
 fn a_row_is_its_record() {
@@ -84,23 +107,34 @@ fn the_last_place_and_length() {
     );
 }
 
+/// The code of an AVP and of its group.
+fn codes(avp: Avp) -> (u32, Option<u32>) {
+    let group = avp.parent().map(|group| group.record.code);
+    (avp.record.code, group)
+}
+
+/// The parent of each row is the first, and so none for that one.
 #[test]
 fn an_iterator_from_both_ends() {
     let row = |code| {
         Record {
             code,
+            parent: Some(0),
             ..Record::default()
         }
         .to_bytes()
     };
     let mut table = [row(1), row(2), row(3)].concat();
-    table.extend([0; 31]);
-    let mut records = Records::new(&table, Reading::Sawp, &[]);
+    table.extend([0; Record::SIZE - 1]);
+    let all = Records::new(&table, Reading::Sawp, &[]);
+    let mut records = all.clone();
     assert_eq!(records.len(), 3);
-    assert_eq!(records.next_back().map(|avp| avp.record.code), Some(3));
-    assert_eq!(records.next().map(|avp| avp.record.code), Some(1));
+    assert_eq!(records.next_back().map(codes), Some((3, Some(1))));
+    assert_eq!(records.next().map(codes), Some((1, None)));
     assert_eq!(records.as_bytes(), row(2));
-    assert_eq!(records.next().map(|avp| avp.record.code), Some(2));
+    assert_eq!(records.next().map(codes), Some((2, Some(1))));
     assert!(records.next().is_none() && records.next_back().is_none());
     assert_eq!(records.len(), 0);
+    let back = [(3, Some(1)), (2, Some(1)), (1, None)];
+    assert!(all.rev().map(codes).eq(back));
 }

@@ -1,5 +1,8 @@
 //! The marked messages (docs/FORMAT.md, 10), P1 to P13, in both readings: each field of the answer and each byte of the store.
 
+mod parents;
+
+use parents::check_parents;
 use tandrekily::error_flags::{DATA_LENGTH, DATA_VALUE};
 use tandrekily::kinds::{GROUPED, UNHANDLED, UNSIGNED32};
 use tandrekily::Refusal::{BadLength, Incomplete, NoRecords, NotTiled, NotVersion, TooDeep};
@@ -62,6 +65,7 @@ const fn record(code: u32, length: u32, kind: u8, errors: u8, padding: u8, bits:
         padding,
         pads: [0; 3],
         bits,
+        parent: None,
     }
 }
 
@@ -167,6 +171,7 @@ fn check_message(name: &str, got: &Message, want: &Accepted) {
     assert_eq!(got.length, want.length, "{name}: length");
     let records: Vec<Record> = got.records().map(|avp| avp.record).collect();
     assert_eq!(records, want.records, "{name}: records");
+    check_parents(got.records());
 }
 
 /// The store as it must be: the records and zeros to its end, or as it was lent.

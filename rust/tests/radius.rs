@@ -1,11 +1,13 @@
 //! RADIUS: case by case, and packets and tables at random against a second writing of the rules.
 
+mod parents;
 mod random;
 mod texts;
 
 use std::net::Ipv4Addr;
 use std::str::from_utf8;
 
+use parents::check_parents;
 use random::Random;
 use tandrekily::radius::{decode, records, write, Header, MOST_LENGTH, MOST_RECORDS};
 use tandrekily::{error_flags, kinds, Record, Refusal, Value};
@@ -116,7 +118,8 @@ fn decoded(input: &[u8], room: usize) -> Result<(usize, Vec<Record>), Refusal> {
 
 fn keeps(r: &Record, pool: &[u8]) -> bool {
     let end = u64::from(r.place) + u64::from(r.length);
-    let fixed = (r.depth, r.flags, r.vendor_id, r.padding, r.pads) == (1, 0, 0, 0, [0; 3]);
+    let unpadded = (r.padding, r.pads) == (0, [0; 3]);
+    let fixed = unpadded && (r.depth, r.parent, r.flags, r.vendor_id) == (1, None, 0, 0);
     fixed && r.code <= 255 && (2..=255).contains(&r.length) && end <= pool.len() as u64 + 2
 }
 
@@ -164,6 +167,7 @@ fn check_decode(input: &[u8], room: usize) -> Result<(), Refusal> {
     assert_eq!(packet.header.identifier, input[1]);
     assert_eq!(packet.header.authenticator, input[4..20]);
     assert!(packet.records().map(|attribute| attribute.record).eq(rows));
+    check_parents(packet.records());
     let (header, table) = (packet.header, packet.table().to_vec());
     assert_eq!(store[..table.len()], table);
     assert!(store[table.len()..].iter().all(|&byte| byte == 0));
@@ -214,8 +218,8 @@ fn what_the_reader_refuses() {
         (packet(&name[..4]), 64, Refusal::NotTiled),
         (stating(24, &name), 0, Refusal::NotTiled),
         (packet(&name), 0, Refusal::NoRecords(1)),
-        (packet(&name), 31, Refusal::NoRecords(1)),
-        (packet(&names), 95, Refusal::NoRecords(3)),
+        (packet(&name), Record::SIZE - 1, Refusal::NoRecords(1)),
+        (packet(&names), 3 * Record::SIZE - 1, Refusal::NoRecords(3)),
     ];
     for (input, room, refusal) in refused {
         assert_eq!(check_decode(&input, room), Err(refusal), "{input:?}");
@@ -263,7 +267,7 @@ fn the_most_attributes() {
     assert_eq!(full.len(), MOST_LENGTH);
     let room = MOST_RECORDS * Record::SIZE;
     assert_eq!(check_decode(&full, room), Ok(()));
-    assert_eq!(check_decode(&full, room + 40), Ok(()));
+    assert_eq!(check_decode(&full, room + Record::SIZE + 8), Ok(()));
     let few = Err(Refusal::NoRecords(MOST_RECORDS));
     assert_eq!(check_decode(&full, room - 1), few);
 }
@@ -316,7 +320,7 @@ fn every_type_and_size() {
                 code,
                 &[&b"ab\xFFde"[..], &[0xC3; 248]].concat()[..size],
             ));
-            assert_eq!(check_decode(&input, 37), Ok(()));
+            assert_eq!(check_decode(&input, Record::SIZE + 5), Ok(()));
         }
     }
 }
@@ -412,6 +416,7 @@ const NAME: Record = Record {
     padding: 0,
     pads: [0; 3],
     bits: 0,
+    parent: None,
 };
 
 #[test]
@@ -472,6 +477,18 @@ fn what_a_record_may_not_have() {
         },
         Record {
             pads: [0, 0, 1],
+            ..NAME
+        },
+        Record {
+            parent: Some(0),
+            ..NAME
+        },
+        Record {
+            parent: Some(0xFFFF),
+            ..NAME
+        },
+        Record {
+            parent: Some(u32::MAX - 1),
             ..NAME
         },
     ];

@@ -35,6 +35,7 @@ const WORD: Record = Record {
     padding: 0,
     pads: [0; 3],
     bits: 0,
+    parent: None,
 };
 
 #[test]
@@ -130,6 +131,60 @@ fn the_table() {
         try_write(0, &[&good[..], &[0]].concat(), &pool, 44),
         Err(Refusal::BadTable(1))
     );
+}
+
+/// Two groups with a member each.
+const GROUPS: [Record; 4] = [GROUP, member(0), GROUP, member(2)];
+
+const GROUP: Record = Record {
+    code: 279,
+    kind: kinds::GROUPED,
+    ..WORD
+};
+
+const fn member(group: u32) -> Record {
+    Record {
+        depth: 2,
+        parent: Some(group),
+        ..WORD
+    }
+}
+
+fn table(rows: &[Record]) -> Vec<u8> {
+    rows.iter().flat_map(Record::to_bytes).collect()
+}
+
+#[test]
+fn the_parent() {
+    assert_eq!(try_write(0, &table(&GROUPS), &[0; 4], 60), Ok(60));
+    let far = [4, 1 << 16, (1 << 16) + 2, 1 << 24, u32::MAX - 1];
+    for (index, row) in GROUPS.iter().enumerate() {
+        let tried = (0..4).chain(far).map(Some).chain([None]);
+        for parent in tried.filter(|&parent| parent != row.parent) {
+            let mut rows = GROUPS;
+            rows[index].parent = parent;
+            let answer = try_write(0, &table(&rows), &[0; 4], 60);
+            assert_eq!(answer, Err(Refusal::BadTable(index)), "{parent:?}");
+        }
+    }
+}
+
+/// The first record that breaks a rule is named, whichever rule it is.
+#[test]
+fn a_parent_among_other_rules() {
+    let outside = Record { place: 1, ..WORD };
+    let stray = Record {
+        parent: Some(0),
+        ..WORD
+    };
+    let refused = |rows: &[Record]| try_write(0, &table(rows), &[0; 4], 0);
+    assert_eq!(refused(&[outside, stray]), Err(Refusal::BadTable(0)));
+    assert_eq!(refused(&[WORD, stray, outside]), Err(Refusal::BadTable(1)));
+    let left_over = [&table(&[WORD, stray, WORD])[..], &[0]].concat();
+    let answer = try_write(0, &left_over, &[0; 4], 0);
+    assert_eq!(answer, Err(Refusal::BadTable(1)));
+    let answer = try_write(0x100_0000, &table(&[stray]), &[0; 4], 0);
+    assert_eq!(answer, Err(Refusal::BadHeader));
 }
 
 #[test]

@@ -1,8 +1,10 @@
 //! The sample of crates/replay, answered through this crate: every answer and every byte of the store, as they were recorded.
 
 mod frames;
+mod parents;
 
 use frames::{be_u32, frames, replay, Frame};
+use parents::check_parents;
 use tandrekily::{decode, decode_avp, decode_avp_by, decode_by, find, header, radius, write};
 use tandrekily::{Fields, Header, Message, OneAvp, Reader, Reading, Records, Refusal, UnitValue};
 
@@ -19,7 +21,7 @@ const PACKET_TABLE: u8 = 10;
 
 /// How many cases of each function there are at least.
 const CASES: [usize; 11] = [
-    4_400, 100, 1_500, 120, 1_400, 600, 1_400, 600, 1_100, 1_700, 1_000,
+    4_400, 100, 1_500, 200, 1_400, 600, 1_400, 600, 1_100, 1_700, 1_000,
 ];
 
 /// How many bytes the fields take in the input of a case for a writer.
@@ -57,13 +59,14 @@ fn put_counts(out: &mut Vec<u8>, errors: u8, records: usize, tried: usize, lengt
     put_count(out, length);
 }
 
-/// A record that is read and made again must be the same row.
+/// A record that is read and made again must be the same row, and have the parent that the depths tell.
 fn check_rows(records: Records) {
     let made: Vec<u8> = records
         .clone()
         .flat_map(|avp| avp.record.to_bytes())
         .collect();
     assert_eq!(made, records.as_bytes());
+    check_parents(records);
 }
 
 fn put_message(out: &mut Vec<u8>, answer: Result<Message, Refusal>) {

@@ -2,7 +2,7 @@
 
 use std::fs;
 
-use tandrekily::{Limits, Reading};
+use tandrekily::{Limits, Reading, Record};
 
 /// The store has some bytes past its last record, since those are cleared too.
 const SPARE: usize = 5;
@@ -51,7 +51,7 @@ fn frame(bytes: &[u8]) -> Frame {
             depth: bytes[2].into(),
             ..Limits::default()
         },
-        room: capacity * 32 + SPARE,
+        room: capacity * Record::SIZE + SPARE,
         input: bytes[FRAME_SIZE..FRAME_SIZE + size].to_vec(),
     }
 }
