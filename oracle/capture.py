@@ -77,11 +77,11 @@ def types(codes):
 
 
 class Avp:
-    """An AVP as tshark shows it; `type` is None if the code isn't one of those whose types are known."""
+    """An AVP as tshark shows it; `type` is None if the code isn't one of those whose types are known, `group` if it stands in none."""
 
-    def __init__(self, field, start, depth, types):
+    def __init__(self, field, start, group, types):
         own = {part.get("name"): part for part in field}
-        self.depth = depth
+        self.group, self.depth = group, 1 if group is None else group.depth + 1
         self.code = int(own["diameter.avp.code"].get("show"))
         self.flags = int(own["diameter.avp.flags"].get("show"), 16)
         self.length = int(own["diameter.avp.len"].get("show"))
@@ -95,7 +95,7 @@ class Avp:
         self.padding = b"" if pad is None else bytes.fromhex(pad.get("value"))
         self.members = []
         if self.type == "Grouped":
-            self.members = [Avp(part, start, depth + 1, types) for part in self.field.findall("field[@name='diameter.avp']")]
+            self.members = [Avp(part, start, self, types) for part in self.field.findall("field[@name='diameter.avp']")]
         self.errors = self.own_errors(own["diameter.avp.flags"], pad)
         for member in self.members:
             self.errors |= member.errors
@@ -137,9 +137,12 @@ def has(field, name):
 
 
 def avps(tree, types):
+    """All in order, each with its index."""
     start = int(tree.get("pos"))
-    for field in tree.findall("field[@name='diameter.avp']"):
-        yield from Avp(field, start, 1, types).run()
+    found = [avp for field in tree.findall("field[@name='diameter.avp']") for avp in Avp(field, start, None, types).run()]
+    for index, avp in enumerate(found):
+        avp.index = index
+    return found
 
 
 def header(tree):

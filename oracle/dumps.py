@@ -62,13 +62,15 @@ VALUES = [
 ]
 # tried headers that have no records: a group that does not tile
 UNTILED = [avp(FAILED, avp(RESULT, u32(1)) + avp(SESSION, b"a;b") + b"\0"), avp(FAILED, b"\0" * 9)]
+LONE = avp(UNKNOWN)
 GROUPS = [
     nest(2, avp(RESULT, u32(5012)) + avp(SESSION, b"host;1;2")),
     avp(FAILED, b"".join(VALUES)),
     avp(FAILED, b"".join(UNTILED) + b"".join(READINGS)),
     avp(FAILED),
+    # members behind a deeper group, of the first group and of a second one
+    avp(FAILED, LONE + nest(2, LONE + LONE) + LONE) + avp(FAILED, avp(FAILED) + LONE),
 ]
-LONE = avp(UNKNOWN)
 
 # as much as there is room for: 32,768 bytes, 64 levels, 1,024 records. Every smaller limit shows
 MIXED = [*READINGS, *VALUES, *UNTILED, *GROUPS, nest(DEPTH - 1, avp(SUB_SESSION, b"\1" * 8))]
@@ -94,6 +96,7 @@ MESSAGES = [
     message(nest(DEPTH, b"")),
     message(nest(DEPTH, b"\0")),
     message(nest(DEPTH, LONE), b"\0"),
+    message(*[LONE] * 300, nest(2, LONE)),
     message(*[LONE] * RECORDS),
     message(*[LONE] * (RECORDS + 1)),
     message(*[LONE] * 4093),
@@ -115,7 +118,7 @@ def text(data):
     except model.Refused as r:
         return "refused " + line(r.number, r.amount)
     be = model.be
-    rows = [line(r[16], be(r[0:4]), be(r[8:12]), r[17], r[18], be(r[5:8]), be(r[24:32])) for r in records]
+    rows = [line(r[16], be(r[0:4]), be(r[8:12]), r[17], r[18], be(r[5:8]), be(r[24:32]), be(r[32:36])) for r in records]
     return line(length, flags, len(records), tried) + "".join(rows)
 
 

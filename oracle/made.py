@@ -1,18 +1,22 @@
 """Makes cases from a seed, a line each as in cases.txt: python3 oracle/made.py SEED COUNT, of the RFC reading, or, with a word behind it, others: `search` for
-searches and steps, which know no reading, `edition` for messages and AVPs by an edition, `compare` for comparisons, `radius` for packets of RADIUS, read and
-to be written.
+searches and steps, which know no reading, `edition` for messages and AVPs by an edition, `compare` for comparisons, `table` for tables to be written, `radius`
+for packets of RADIUS, read and to be written.
 
 Messages are laid out as RFC 6733 sections 3 and 4 say, with the codes of docs/FORMAT.md and a few others, text at the edges of RFC 3629's ranges, and
 Address data of several families. Some are then damaged: a length, a byte, the end. Packets are laid out as RFC 2865 sections 3 and 5 say, and damaged too;
-a table of a packet to be written is what the model reads of one, whole or with a byte of a record, the end of the table or that of the bytes altered.
+a table of a packet to be written is what the model reads of one. Other tables have rows at any depths that may stand one after the other. Some are then
+altered: a parent, a byte of a record, the end of the table or that of the bytes.
 """
 import random
 import sys
 
-from model import EDITIONS, KIND, RADIUS, SPARE, Refused, packet
+from model import EDITIONS, KIND, RADIUS, RECORD, SPARE, TOP_LEVEL, Refused, packet, parent, parented
 
 # types of RADIUS, those of text more often, and some that neither RFC has
 TYPES = [*sorted(RADIUS), *(11, 18, 22, 44) * 4, 0, 17, 21, 52, 59, 64, 128, 255]
+# kinds of rows that are no groups
+LEAVES = (0, 1, 4, 7, 10, 14)
+DEEPEST = 64
 # of Value-Digits, 64 bits with a sign
 LARGEST = 2**63 - 1
 
@@ -162,14 +166,64 @@ def radius_packet(r):
     return r.randbytes(2) + length.to_bytes(2, "big") + r.randbytes(16) + body
 
 
+def mistaken(r, depths, at):
+    """What might be taken for a record's parent: a neighbour, another record one depth less, its number within its group, a place in bytes."""
+    right = parent(depths, at)
+    above = [i for i, depth in enumerate(depths) if depth == depths[at] - 1]
+    near = (at - 1, at, at + 1, right - 1, right + 1, at - right)
+    taken = r.choice((*near, *near, *above, *above, 0, 0, TOP_LEVEL, TOP_LEVEL, len(depths), right * RECORD, right << 8, r.randrange(2**32)))
+    return (taken % 2**32).to_bytes(4, "big")
+
+
+def reparented(r, table):
+    """One parent replaced, now and then by itself."""
+    at = r.randrange(len(table) // RECORD)
+    end = RECORD * (at + 1)
+    return table[: end - 4] + mistaken(r, table[16::RECORD], at) + table[end:]
+
+
 def altered(r, table, pool):
     """One byte of a record, or the end of the table or of the bytes."""
     at = r.randrange(len(table) + 4)
     if at < len(table):
         return table[:at] + bytes([r.choice((0, 1, 2, 255, r.randrange(256)))]) + table[at + 1 :], pool
     if at % 2:
-        return table + r.randbytes(r.randrange(1, 32)), pool
+        return r.choice((table + r.randbytes(r.randrange(1, RECORD)), table[: -r.randrange(1, RECORD)])), pool
     return table, pool[: r.randrange(len(pool) + 1)]
+
+
+def shape(r):
+    """Depths and kinds of rows that may stand one after the other, some of them as deep as can be."""
+    steep, allowed = r.choice((0.5, 0.5, 0.98)), 1
+    for _ in range(r.choice((1, 2, 3, 5, 8, 13)) if steep < 0.9 else 80):
+        depth = min(DEEPEST, allowed) if r.random() < steep else r.randint(1, min(DEEPEST, allowed))
+        kind = 8 if r.random() < steep else r.choice(LEAVES)
+        allowed = depth + (kind == 8)
+        yield depth, kind
+
+
+def row(r, depth, kind, pool):
+    """A row that keeps the rules, without its parent."""
+    flags = r.choice((0, 0x40, 0x80, 0xC0, r.randrange(256)))
+    place = r.randrange(len(pool) + 1)
+    size = r.choice((0, 1, 3, 4, 4, 8)) if kind == 8 else min(r.choice((0, 1, 3, 4, 4, 8)), len(pool) - place)
+    padding = 0 if kind == 8 else -size % 4
+    pads = r.choice((bytes(3), r.randbytes(3)))[:padding].ljust(3, b"\0")
+    head = r.choice(BASE.all).to_bytes(4, "big") + bytes([flags]) + ((12 if flags & 0x80 else 8) + size).to_bytes(3, "big")
+    vendor = r.choice((0, 1, 10415)) if flags & 0x80 else 0
+    return head + vendor.to_bytes(4, "big") + place.to_bytes(4, "big") + bytes([depth, kind, r.randrange(16), padding]) + pads + r.randbytes(9)
+
+
+def writing(r):
+    """A table to be written, some of them with one parent replaced, something else altered, or both."""
+    pool = r.randbytes(r.randrange(40))
+    rows = b"".join(parented([row(r, depth, kind, pool) for depth, kind in shape(r)]))
+    if r.random() < 0.5:
+        rows = reparented(r, rows)
+    if r.random() < 0.3:
+        rows, pool = altered(r, rows, pool)
+    fields = r.randbytes(1) + r.choice((*(272,) * 20, 0xFFFFFF, 0x1000000)).to_bytes(4, "big") + r.randbytes(12)
+    return "table", "sawp", 0, r.choice((0, 2, 8, 60)), (fields + len(rows).to_bytes(4, "big") + rows + pool).hex()
 
 
 def radius(r):
@@ -182,9 +236,11 @@ def radius(r):
     if r.random() < 0.5:
         return "packet", max(0, need + r.choice((-1, 0, 0, 1))), damaged(r, wire).hex() or "-"
     table, pool = b"".join(records), wire
-    if r.random() < 0.6:
+    if table and r.random() < 0.2:
+        table = reparented(r, table)
+    if r.random() < 0.5:
         table, pool = altered(r, table, pool)
-    room = (length - SPARE + 31) // 32 - (r.random() < 0.1)
+    room = (length - SPARE + RECORD - 1) // RECORD - (r.random() < 0.1)
     return "packet-table", room, (wire[:2] + wire[4:20] + len(table).to_bytes(4, "big") + table + pool).hex()
 
 
@@ -197,7 +253,7 @@ def sizes():
                 yield "packet", 1, wire.hex()
 
 
-MAKERS = {"read": read, "search": search, "edition": read_by, "compare": comparison, "radius": radius}
+MAKERS = {"read": read, "search": search, "edition": read_by, "compare": comparison, "table": writing, "radius": radius}
 
 
 def main():

@@ -2,7 +2,8 @@
 
 It answers a case as docs/FORMAT.md says: message, header alone or one AVP alone, in either reading, message or one AVP alone by an edition, a table to be
 written, a search, a comparison, or a RADIUS packet, read or to be written. It is slow and plain on purpose: a search decodes the whole message and looks
-for the record, and a comparison works with fractions. `oracle/run replay` makes with it frames that crates/replay reads and answers that it must write:
+for the record, a parent is found by walking back over the depths, and a comparison works with fractions. `oracle/run replay` makes with it frames that
+crates/replay reads and answers that it must write:
 
     python3 oracle/model.py frames < oracle/cases.txt
     python3 oracle/model.py answers < oracle/cases.txt
@@ -73,6 +74,8 @@ KINDS_RADIUS = {
     13: [4, 8, 9, 14],
 }
 SMALLEST_PACKET, LARGEST_PACKET = 20, 4096
+# the bytes of a record, and the parent of one at depth 1
+RECORD, TOP_LEVEL = 36, 0xFFFFFFFF
 
 
 def by_code(kinds):
@@ -163,7 +166,7 @@ def avp_front(data):
 
 
 def run(reading, data, place, depth):
-    """Of a run: does it tile, its records, its flags, headers tried, the deepest level."""
+    """Of a run: does it tile, its records without their parents, its flags, headers tried, the deepest level."""
     at, records, flags, tried, deepest = 0, [], 0, 0, 0
     while at < len(data):
         tried, deepest = tried + 1, max(deepest, depth)
@@ -192,6 +195,19 @@ def run(reading, data, place, depth):
         flags |= errors
         at += size
     return True, records, flags, tried, deepest
+
+
+def parent(depths, index):
+    """The last earlier record one depth less, by walking back."""
+    if depths[index] == 1:
+        return TOP_LEVEL
+    return next(at for at in reversed(range(index)) if depths[at] == depths[index] - 1)
+
+
+def parented(records):
+    """The records of a whole table with their parents, which are told by the depths alone."""
+    depths = [r[16] for r in records]
+    return [r + parent(depths, index).to_bytes(4, "big") for index, r in enumerate(records)]
 
 
 def header(data):
@@ -231,7 +247,7 @@ def message(reading, limit, room, data):
     if not tiles:
         raise Refused(NOT_TILED)
     fits(limit, room, deepest, records)
-    return own | flags, records, tried, length
+    return own | flags, parented(records), tried, length
 
 
 def header_alone(data):
@@ -243,7 +259,7 @@ def avp_alone(reading, limit, room, data):
     size = avp_front(data)[5]
     _, records, flags, tried, deepest = run(reading, data[:size], 0, 1)
     fits(limit, room, deepest, records)
-    return flags, records, tried, size
+    return flags, parented(records), tried, size
 
 
 def by_edition(ask, edition, limit, room, data):
@@ -295,13 +311,13 @@ def row(r):
     """A record as the writer takes it."""
     return {
         "code": r[0:4], "flags": r[4], "length": be(r[5:8]), "vendor": r[8:12], "place": be(r[12:16]),
-        "depth": r[16], "kind": r[17], "padding": r[19], "pads": r[20:23], "head": 12 if r[4] & 0x80 else 8,
+        "depth": r[16], "kind": r[17], "padding": r[19], "pads": r[20:23], "head": 12 if r[4] & 0x80 else 8, "parent": be(r[32:36]),
     }
 
 
 def rows_of(table):
     """The whole ones."""
-    return [row(table[i : i + 32]) for i in range(0, len(table) // 32 * 32, 32)]
+    return [row(table[at : at + RECORD]) for at in range(0, len(table) // RECORD * RECORD, RECORD)]
 
 
 def keeps(r, allowed, pool):
@@ -337,11 +353,12 @@ def written(data, room):
     if code > 0xFFFFFF:
         raise Refused(BAD_HEADER)
     rows, allowed = rows_of(table), 1
+    depths = [r["depth"] for r in rows]
     for index, r in enumerate(rows):
-        if not keeps(r, allowed, pool):
+        if not keeps(r, allowed, pool) or r["parent"] != parent(depths, index):
             raise Refused(BAD_TABLE, index)
         allowed = r["depth"] + (r["kind"] == 8)
-    if len(table) % 32:
+    if len(table) % RECORD:
         raise Refused(BAD_TABLE, len(rows))
     body = avps_of(rows, 1, pool)[0]
     total = 20 + len(body)
@@ -391,7 +408,7 @@ def packet(room, data):
         flags |= errors
         records.append(
             code.to_bytes(4, "big") + (2 + len(body)).to_bytes(4, "big") + bytes(4) + place.to_bytes(4, "big")
-            + bytes([1, kind, errors]) + bytes(5) + number.to_bytes(8, "big")
+            + bytes([1, kind, errors]) + bytes(5) + number.to_bytes(8, "big") + TOP_LEVEL.to_bytes(4, "big")
         )
     if len(records) > room:
         raise Refused(NO_RECORDS, len(records))
@@ -400,7 +417,7 @@ def packet(room, data):
 
 def is_attribute(r, pool):
     """Does a row keep the rules of the writer of packets?"""
-    if r["flags"] or any(r["vendor"]) or r["padding"] or any(r["pads"]) or r["depth"] != 1:
+    if r["flags"] or any(r["vendor"]) or r["padding"] or any(r["pads"]) or r["depth"] != 1 or r["parent"] != TOP_LEVEL:
         return False
     return be(r["code"]) <= 255 and 2 <= r["length"] <= 255 and r["place"] + r["length"] - 2 <= len(pool)
 
@@ -412,7 +429,7 @@ def packet_written(data, room):
     for index, r in enumerate(rows):
         if not is_attribute(r, pool):
             raise Refused(BAD_TABLE, index)
-    if len(table) % 32:
+    if len(table) % RECORD:
         raise Refused(BAD_TABLE, len(rows))
     body = b"".join(r["code"][3:] + bytes([r["length"]]) + pool[r["place"] : r["place"] + r["length"] - 2] for r in rows)
     total = SMALLEST_PACKET + len(body)
@@ -461,7 +478,7 @@ def counts(flags, records, tried, length):
 
 
 def answer(function, reading, limit, room, data):
-    size = room * 32 + SPARE
+    size = room * RECORD + SPARE
     try:
         if function in WRITERS:
             out = WRITERS[function](data, size)

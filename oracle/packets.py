@@ -10,7 +10,7 @@ import xml.etree.ElementTree as ElementTree
 from pathlib import Path
 
 import capture
-from model import DATA_LENGTH, DATA_VALUE, RADIUS, be
+from model import DATA_LENGTH, DATA_VALUE, RADIUS, TOP_LEVEL, be
 from typical import ILL_FORMED, OCTETS, TEXTS, WORDS, wide
 
 PORT, ACCOUNTING_PORT = 1812, 1813
@@ -74,7 +74,7 @@ def table(r, given):
         pool += r.randbytes(r.randrange(4))
         rows += (
             code.to_bytes(4, "big") + (2 + len(data)).to_bytes(4, "big") + bytes(4) + len(pool).to_bytes(4, "big")
-            + bytes([1, RADIUS.get(code, 0)]) + bytes(14)
+            + bytes([1, RADIUS.get(code, 0)]) + bytes(14) + TOP_LEVEL.to_bytes(4, "big")
         )
         pool += data
     return bytes([r.choice((*CODES, *ACCOUNTING_CODES))]) + r.randbytes(17), rows, pool
@@ -196,8 +196,8 @@ def of_attribute(record, shown, data):
     yield "type", be(record[:4]), shown.code
     yield "length", be(record[5:8]), shown.length
     yield "place", be(record[12:16]), shown.place
-    # flags, vendor, padding and depth, of which RADIUS has none
-    yield "other fields", record[4:5] + record[8:12] + record[19:23] + record[16:17], bytes(9) + b"\1"
+    # flags, vendor, padding, depth and parent, of which RADIUS has none
+    yield "other fields", record[4:5] + record[8:12] + record[19:23] + record[16:17] + record[32:36], bytes(9) + b"\1" + TOP_LEVEL.to_bytes(4, "big")
     yield "error flags", record[18], shown.errors
     yield "data", data, shown.data
     yield "kind", record[17], shown.kind()

@@ -7,7 +7,7 @@ reserved bits of the message flags, R together with E; what makes it stop: a Tim
 doesn't show as it is: a longer Time, 258 and 259 with a wrong length, which it doesn't test in these two, and in text the characters that XML can't hold.
 It shows Restriction-Filter-Rule (438) as text, so that is given text.
 """
-from model import EDITIONS, KIND, kind_of
+from model import EDITIONS, KIND, kind_of, parented
 
 UNTESTED, FILTER_RULE = (258, 259), 438
 UNKNOWN = (0, 999, 77777, 16777216, 4294967295)
@@ -112,7 +112,7 @@ CREDIT = Book(8506, [*BASE.codes, *CREDIT_CODES], (CREDIT_CONTROL,), (CREDIT_CON
 
 
 class Table:
-    """Rows, and the bytes that they point into with some between that nothing points at."""
+    """Rows without their parents, and the bytes that they point into with some between that nothing points at."""
 
     def __init__(self, r, book):
         self.r, self.book, self.rows, self.pool = r, book, [], b""
@@ -137,7 +137,7 @@ class Table:
         """The header fields and the table as the writer takes them, and the bytes."""
         r = self.r
         ids = r.choice(self.book.applications).to_bytes(4, "big") + r.randbytes(8)
-        return bytes([r.choice(MESSAGE_FLAGS)]) + r.choice(self.book.commands).to_bytes(4, "big") + ids, b"".join(self.rows), self.pool
+        return bytes([r.choice(MESSAGE_FLAGS)]) + r.choice(self.book.commands).to_bytes(4, "big") + ids, b"".join(parented(self.rows)), self.pool
 
 
 def started(r, book):

@@ -7,7 +7,7 @@ import ipaddress
 import time
 
 import capture
-from model import be
+from model import TOP_LEVEL, be
 
 KINDS = {
     "OctetString": 1, "Integer32": 2, "Integer64": 3, "Unsigned32": 4, "Unsigned64": 5, "Grouped": 8, "Enumerated": 9, "UTF8String": 10,
@@ -97,6 +97,7 @@ def shown_value(kind, avp):
 def of_avp(record, avp, data, listed):
     """Sort, ours and tshark's of each thing that both say of an AVP."""
     yield "depth", record[16], avp.depth
+    yield "parent", be(record[32:36]), TOP_LEVEL if avp.group is None else avp.group.index
     yield "code", be(record[:4]), avp.code
     yield "flags", record[4], avp.flags
     yield "length", be(record[5:8]), avp.length
@@ -124,7 +125,7 @@ def compared(message, tree, types, listed):
         return
     for (sort, (start, end)), theirs in zip(HEADER.items(), capture.header(tree)):
         yield sort, "", be(message.header[start:end]), theirs
-    avps = list(capture.avps(tree, types))
+    avps = capture.avps(tree, types)
     yield "number of AVPs", "", len(message.records), len(avps)
     for at, (record, avp) in enumerate(zip(message.records, avps)):
         for sort, ours, theirs in of_avp(record, avp, data_of(record, message.wire), listed):

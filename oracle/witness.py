@@ -19,10 +19,10 @@ import time
 
 import model
 
-CODES, EDITION_CODES, STORE, LENT = 513, 701, 37, 0xA5
+CODES, EDITION_CODES, STORE, LENT = 513, 701, 41, 0xA5
 P8 = bytes.fromhex("01000024" + "00" * 16 + "0000010c0000000d000007d100000000")
 BROKEN = bytes.fromhex("01000025" + "00" * 16 + "0000010c0000000d000007d10000000000")
-RECORD = bytes.fromhex("0000010c0000000d000000000000001c" + "0104020300000000" + "00000000000007d1")
+RECORD = bytes.fromhex("0000010c0000000d000000000000001c" + "0104020300000000" + "00000000000007d1" + "ffffffff")
 PACKET = bytes.fromhex("0407001f" + "101112131415161718191a1b1c1d1e1f" + "2c044133" + "2e070000000100" + "ff")
 # What each refusal returns, by its number from 1 on, where it was made with 12.
 AMOUNTS = [12, 0, 0, 0, 0, 12, 0, 0, 12, 0, 12, 0, 0]
@@ -200,7 +200,7 @@ def stepped(answer, place):
 
 def read(ask, dictionary, limit, data):
     """What a store of that room holds afterwards, behind the numbers of the answer."""
-    errors, records, tried, length = ask(dictionary, limit, STORE // 32, data)
+    errors, records, tried, length = ask(dictionary, limit, STORE // model.RECORD, data)
     return errors, len(records), tried, length, b"".join(records).ljust(STORE, b"\0")
 
 
@@ -275,9 +275,9 @@ def library():
 
 def packets():
     """A packet, in a store for its two records and in one a byte too short; its first record, written, in room enough and in a byte too little."""
-    for size in (69, 63):
+    for size in (77, 71):
         def read_packet():
-            errors, records, tried, length = model.packet(size // 32, PACKET)
+            errors, records, tried, length = model.packet(size // model.RECORD, PACKET)
             return [0, 0, errors, len(records), tried, length, *PACKET[:2]], b"".join(records).ljust(size, b"\0"), PACKET[4:20]
 
         packet_line("packet", read_packet, size, 16)

@@ -125,7 +125,7 @@ const HEADER_FIELDS: [(&str, usize); 7] = [
     ("end-to-end", 16),
 ];
 
-const RECORD_FIELDS: [(&str, usize); 12] = [
+const RECORD_FIELDS: [(&str, usize); 13] = [
     ("code", 0),
     ("flags", 4),
     ("length", 5),
@@ -138,6 +138,7 @@ const RECORD_FIELDS: [(&str, usize); 12] = [
     ("padding bytes", 20),
     ("byte 23", 23),
     ("value", 24),
+    ("parent", 32),
 ];
 
 // The name of the field that byte `at` belongs to.

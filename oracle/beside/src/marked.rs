@@ -1,6 +1,10 @@
 //! The marked messages (docs/FORMAT.md, 10), P1 to P13, and some more whose answers were worked out by hand.
 
 use crate::answer::{AVP_ALONE, HEADER_ALONE, MESSAGE};
+use sawp_diameter::diameter::inside::TOP_LEVEL as TOP;
+
+/// Depth, code, kind, error flags, length, value and parent of a record.
+type Row = (u8, u32, u8, u8, u32, u64, u32);
 
 /// A question and what is known of its answer.
 pub struct Marked {
@@ -14,8 +18,8 @@ pub struct Marked {
     pub amount: u32,
     /// If accepted: flags, tried and length.
     pub accepted: (u8, u32, u32),
-    /// If accepted: depth, code, kind, error flags, length and value of each record.
-    pub records: &'static [(u8, u32, u8, u8, u32, u64)],
+    /// If accepted.
+    pub records: &'static [Row],
 }
 
 impl Marked {
@@ -58,7 +62,7 @@ const fn accepted(
     limit: u8,
     hex: &'static str,
     accepted: (u8, u32, u32),
-    records: &'static [(u8, u32, u8, u8, u32, u64)],
+    records: &'static [Row],
 ) -> Marked {
     Marked {
         name,
@@ -78,7 +82,17 @@ const P11: &str = "01 00 00 20 00*16 00 00 01 17 00 00 00 09 00 00 00 00";
 const P12: &str = "01 00 00 1C 00*16 00 00 01 17 00 00 00 08";
 const DROPPED: &str = "01 00 00 2C 00*16 00 00 01 17 00 00 00 15 00 00 01 17 00 00 00 09 00 00 00 00 00 00 00 00";
 
-pub const MARKED: [Marked; 26] = [
+// A number; a group of a number, a group of one, and a number behind it; a group of an empty one; a number.
+const NESTED: &str = "01 00 00 70 00*16 00 00 01 0C 00 00 00 0C 00 00 07 D1 00 00 01 17 00 00 00 34 \
+    00 00 01 0C 00 00 00 0C 00 00 07 D1 00 00 01 17 00 00 00 14 00 00 01 0C 00 00 00 0C 00 00 07 D1 \
+    00 00 01 0C 00 00 00 0C 00 00 07 D1 00 00 01 17 00 00 00 10 00 00 01 17 00 00 00 08 \
+    00 00 01 0C 00 00 00 0C 00 00 07 D1";
+const GROUP: &str = "00 00 01 17 00 00 00 34 00 00 01 0C 00 00 00 0C 00 00 07 D1 \
+    00 00 01 17 00 00 00 14 00 00 01 0C 00 00 00 0C 00 00 07 D1 00 00 01 0C 00 00 00 0C 00 00 07 D1";
+const FAILING: &str = "01 00 00 34 00*16 00 00 01 17 00 00 00 20 00 00 01 17 00 00 00 09 00 00 00 00 \
+    00 00 01 0C 00 00 00 0C 00 00 07 D1";
+
+pub const MARKED: [Marked; 29] = [
     refused("P1", MESSAGE, 64, 64, "", 1, 1),
     refused("P2", MESSAGE, 64, 64, "02", 2, 0),
     refused("P3", MESSAGE, 64, 64, "01 00", 1, 2),
@@ -86,14 +100,14 @@ pub const MARKED: [Marked; 26] = [
     refused("P5", MESSAGE, 64, 64, "01 00 00 13 00*4", 1, 11),
     refused("P6", MESSAGE, 64, 64, "01 00 00 13 00*15", 3, 0),
     accepted("P7", MESSAGE, 64, "01 00 00 14 00*16", (0, 0, 20), &[]),
-    accepted("P8", MESSAGE, 64, P8, (2, 1, 36), &[(1, 268, 4, 2, 13, 2001)]),
+    accepted("P8", MESSAGE, 64, P8, (2, 1, 36), &[(1, 268, 4, 2, 13, 2001, TOP)]),
     accepted(
         "P9",
         MESSAGE,
         64,
         "01 00 00 20 00*16 00 00 01 0C 00 00 00 0B 00 00 00 00",
         (2, 1, 32),
-        &[(1, 268, 0, 2, 11, 0)],
+        &[(1, 268, 0, 2, 11, 0, TOP)],
     ),
     refused(
         "P10",
@@ -104,10 +118,17 @@ pub const MARKED: [Marked; 26] = [
         4,
         0,
     ),
-    accepted("P11", MESSAGE, 64, P11, (1, 2, 32), &[(1, 279, 0, 1, 9, 0)]),
+    accepted("P11", MESSAGE, 64, P11, (1, 2, 32), &[(1, 279, 0, 1, 9, 0, TOP)]),
     refused("P11, limit 1", MESSAGE, 1, 64, P11, 5, 0),
-    accepted("P12", MESSAGE, 64, P12, (0, 1, 28), &[(1, 279, 8, 0, 8, 0)]),
-    accepted("P12, limit 1", MESSAGE, 1, P12, (0, 1, 28), &[(1, 279, 8, 0, 8, 0)]),
+    accepted("P12", MESSAGE, 64, P12, (0, 1, 28), &[(1, 279, 8, 0, 8, 0, TOP)]),
+    accepted(
+        "P12, limit 1",
+        MESSAGE,
+        1,
+        P12,
+        (0, 1, 28),
+        &[(1, 279, 8, 0, 8, 0, TOP)],
+    ),
     refused("P13", MESSAGE, 64, 0, P8, 6, 1),
     refused("limit 0 comes first", MESSAGE, 0, 0, "", 7, 0),
     refused("limit 65", AVP_ALONE, 65, 0, "", 7, 0),
@@ -136,7 +157,51 @@ pub const MARKED: [Marked; 26] = [
         3,
         DROPPED,
         (1, 4, 44),
-        &[(1, 279, 0, 1, 21, 0)],
+        &[(1, 279, 0, 1, 21, 0, TOP)],
+    ),
+    accepted(
+        "members of several groups",
+        MESSAGE,
+        64,
+        NESTED,
+        (0, 9, 112),
+        &[
+            (1, 268, 4, 0, 12, 2001, TOP),
+            (1, 279, 8, 0, 52, 0, TOP),
+            (2, 268, 4, 0, 12, 2001, 1),
+            (2, 279, 8, 0, 20, 0, 1),
+            (3, 268, 4, 0, 12, 2001, 3),
+            (2, 268, 4, 0, 12, 2001, 1),
+            (1, 279, 8, 0, 16, 0, TOP),
+            (2, 279, 8, 0, 8, 0, 6),
+            (1, 268, 4, 0, 12, 2001, TOP),
+        ],
+    ),
+    accepted(
+        "AVP alone, a group",
+        AVP_ALONE,
+        64,
+        GROUP,
+        (0, 5, 52),
+        &[
+            (1, 279, 8, 0, 52, 0, TOP),
+            (2, 268, 4, 0, 12, 2001, 0),
+            (2, 279, 8, 0, 20, 0, 0),
+            (3, 268, 4, 0, 12, 2001, 2),
+            (2, 268, 4, 0, 12, 2001, 0),
+        ],
+    ),
+    accepted(
+        "a failing group before a member",
+        MESSAGE,
+        64,
+        FAILING,
+        (1, 4, 52),
+        &[
+            (1, 279, 8, 1, 32, 0, TOP),
+            (2, 279, 0, 1, 9, 0, 0),
+            (2, 268, 4, 0, 12, 2001, 0),
+        ],
     ),
     refused(
         "header alone, all of the message wanted",

@@ -33,7 +33,9 @@ pub struct Reading {
 }
 
 /// Bytes of a record.
-pub const RECORD: usize = 32;
+pub const RECORD: usize = 36;
+/// The parent of a record at depth 1.
+pub const TOP_LEVEL: u32 = u32::MAX;
 /// The greatest depth limit.
 pub const DEPTH_MAX: usize = 64;
 
@@ -189,11 +191,26 @@ fn records(avps: &[AVP], input: &[u8], at: usize, deepest: usize) -> Vec<[u8; RE
     let mut out = Vec::new();
     if deepest <= DEPTH_MAX {
         put_records(avps, input, at, 1, &mut out);
+        put_parents(&mut out);
     }
     out
 }
 
-// A group before its members. Answers the place after the last AVP.
+// The Rust gives no parents: each is found by walking back over the depths, and nothing is asked of how the groups were entered.
+fn put_parents(records: &mut [[u8; RECORD]]) {
+    for i in 0..records.len() {
+        let parent = match records[i][16] {
+            1 => TOP_LEVEL,
+            depth => records[..i]
+                .iter()
+                .rposition(|earlier| earlier[16] == depth - 1)
+                .expect("a member stands after its group") as u32,
+        };
+        records[i][32..].copy_from_slice(&parent.to_be_bytes());
+    }
+}
+
+// A group before its members, all without their parents. Answers the place after the last AVP.
 fn put_records(avps: &[AVP], input: &[u8], start: usize, depth: u8, out: &mut Vec<[u8; RECORD]>) -> usize {
     let mut at = start;
     for avp in avps {

@@ -239,7 +239,7 @@ fn check(cases: &Cases) -> ExitCode {
             .map(|r| {
                 let word = |at: usize| u32::from_be_bytes(r[at..at + 4].try_into().unwrap());
                 let value = u64::from_be_bytes(r[24..32].try_into().unwrap());
-                (r[16], word(0), r[17], r[18], word(4) & 0xFF_FFFF, value)
+                (r[16], word(0), r[17], r[18], word(4) & 0xFF_FFFF, value, word(32))
             })
             .collect();
         let given = answer

@@ -4,10 +4,10 @@
 use beside::answer::{answer, read, Answer, ACCEPTED, FILL, INCOMPLETE, NOT_TILED, NO_RECORDS, SPARE, TOO_DEEP};
 use beside::frame::Frame;
 use beside::with_stack;
-use sawp_diameter::diameter::inside::{deepest_untiled, Reading, Refusal, RECORD};
+use sawp_diameter::diameter::inside::{deepest_untiled, Reading, Refusal, RECORD, TOP_LEVEL};
 use std::io::{stdin, stdout, BufReader, BufWriter, Write};
 
-const BREAKS: [&str; 29] = [
+const BREAKS: [&str; 37] = [
     "number",       // NotTiled is called TooDeep
     "amount",       // one byte more is called absent
     "records-need", // NoRecords says one more
@@ -33,6 +33,14 @@ const BREAKS: [&str; 29] = [
     "no-place",     // text broke at its first byte
     "group-broke",  // a group that fails has a place too
     "ipv6",         // an IPv6 address has a value
+    "top-zero",     // a record of the top level has the parent 0
+    "no-parent",    // a member has the mark of the top level
+    "before",       // a member has the record before it
+    "first",        // a member has the first record one depth less, not the last
+    "last-group",   // a member has the last group, however deep
+    "within",       // a member has its number within its group
+    "one-more",     // a member has the record after its group
+    "turned",       // a parent has its lowest byte first
     "header-store", // the header alone clears the store
     "stops",        // no answer after the thousandth
     "more",         // a byte after the last answer
@@ -126,6 +134,26 @@ fn broken(kind: &str, frame: &Frame) -> Answer {
     a
 }
 
+// The parent that record `i` gets; none where a kind leaves it as it is.
+fn wrong_parent(kind: &str, records: &[[u8; RECORD]], i: usize) -> Option<u32> {
+    let right = u32::from_be_bytes(records[i][32..].try_into().unwrap());
+    if right == TOP_LEVEL {
+        return (kind == "top-zero").then_some(0);
+    }
+    let (mut earlier, above) = (records[..i].iter(), records[i][16] - 1);
+    let found = match kind {
+        "no-parent" => return Some(TOP_LEVEL),
+        "turned" => return Some(right.swap_bytes()),
+        "before" => Some(i - 1),
+        "first" => earlier.position(|r| r[16] == above),
+        "last-group" => earlier.rposition(|r| r[17] == 8),
+        "within" => Some(i - right as usize),
+        "one-more" => Some(right as usize + 1),
+        _ => None,
+    };
+    found.map(|at| at as u32)
+}
+
 fn break_acceptance(kind: &str, frame: &Frame, found: &Result<Reading, Refusal>, a: &mut Answer) {
     let (Ok(reading), Some(given)) = (found, &mut a.accepted) else {
         return;
@@ -159,7 +187,7 @@ fn break_acceptance(kind: &str, frame: &Frame, found: &Result<Reading, Refusal>,
             }
         }
         _ => {
-            for record in a.store.chunks_exact_mut(RECORD).take(records) {
+            for (i, record) in a.store.chunks_exact_mut(RECORD).take(records).enumerate() {
                 let place = u32::from_be_bytes(record[12..16].try_into().unwrap()) as usize;
                 let data = &frame.bytes[place..];
                 match kind {
@@ -176,6 +204,9 @@ fn break_acceptance(kind: &str, frame: &Frame, found: &Result<Reading, Refusal>,
                     _ => {
                         if let Some(at) = byte_of(kind) {
                             record[at] ^= 1;
+                        }
+                        if let Some(parent) = wrong_parent(kind, &reading.records, i) {
+                            record[32..].copy_from_slice(&parent.to_be_bytes());
                         }
                     }
                 }
