@@ -255,7 +255,8 @@ impl<'a> Records<'a> {
         }
     }
 
-    /// The rows that are left to iterate over, as [`write`](crate::write) takes them.
+    /// The rows that are left to iterate over. Parents are indices in the whole table, so [`write`](crate::write) takes these rows
+    /// where none was taken from the front.
     pub fn as_bytes(&self) -> &'a [u8] {
         &self.table[self.start..]
     }

@@ -14,11 +14,11 @@ use Rattle.octets.specs.Octets.{Bytes}
 use Rattle.octets.specs.Run.{item}
 use Rattle.rfc3629.specs.Syntax.{UTF8-octets}
 use Rattle.rfc3629.specs.Prefix.{LongestPrefix}
-use Rattle.rfc3629.specs.declared.Utf8.{Utf8}
-use Rattle.rfc3629.specs.declared.Utf8.the-variants.{WellFormed, ValidUpTo}
+use Rattle.utf8.specs.declared.Utf8.{Utf8}
+use Rattle.utf8.specs.declared.Utf8.the-variants.{WellFormed, ValidUpTo}
 use Rattle.rfc3629.proofs.Grammar.{well-formed-is}
 use Rattle.rfc3629.proofs.Prefixes.{longest, one-longest, broke-before-end}
-use Rattle.rfc3629.proofs.Answers.{says}
+use Rattle.utf8.proofs.Answers.{says}
 use Rattle.record.specs.Table.{wholeRecords, Every}
 use Rattle.record.specs.Store.{stored}
 use Rattle.rfc6733.specs.Header.{headerSize, messageLength}

@@ -25,8 +25,12 @@ use Rattle.octets.proofs.to_be_u24.Reads as to-be-u24
 use Rattle.octets.proofs.to_be_u32.Reads as to-be-u32
 use Rattle.octets.proofs.to_be_u64.Reads as to-be-u64
 use Rattle.octets.proofs.at_hand.length.Reads as length
-use Rattle.rfc3629.proofs.check.Reads as check
-use Rattle.rfc3629.proofs.is_utf8.Reads as is-utf8
+use Rattle.rfc3629.proofs.is_utf8_1.Reads as is-utf8-1
+use Rattle.rfc3629.proofs.is_utf8_2.Reads as is-utf8-2
+use Rattle.rfc3629.proofs.is_utf8_3.Reads as is-utf8-3
+use Rattle.rfc3629.proofs.is_utf8_4.Reads as is-utf8-4
+use Rattle.utf8.proofs.check.Reads as check
+use Rattle.utf8.proofs.is_utf8.Reads as is-utf8
 use Rattle.refusal.proofs.Refusal.number.Reads as number
 use Rattle.refusal.proofs.Refusal.amount.Reads as amount
 use Rattle.flags.proofs.raised.Reads as raised
@@ -76,7 +80,17 @@ use Rattle.count.proofs.allowed.Reads as allowed
 use Rattle.count.proofs.count_run.Reads as count-run
 use Rattle.rules.proofs.header_size.Reads as record-header-size
 use Rattle.rules.proofs.keepers.Reads as keepers
-use Rattle.radius.proofs.types.kind.Reads as type-kind
+use Rattle.radius_value.proofs.types.kind.Reads as type-kind
+use Rattle.radius_value.proofs.read.Reads as attribute-value-read
+use Rattle.results.proofs.of_message.Reads as of-message
+use Rattle.results.proofs.of_header.Reads as of-header
+use Rattle.results.proofs.of_avp.Reads as of-avp
+use Rattle.results.proofs.of_written.Reads as of-written
+use Rattle.results.proofs.of_found.Reads as of-found
+use Rattle.results.proofs.sign_of.Reads as sign-of
+use Rattle.results.proofs.packets.lay.Reads as packet-lay
+use Rattle.results.proofs.packets.refused.Reads as packet-refused
+use Rattle.results.proofs.packets.of_written.Reads as packet-of-written
 use Rattle.tandrekily.proofs.tandrekily_is_utf8.Reads as tandrekily-is-utf8
 use Rattle.tandrekily.proofs.tandrekily_utf8.Reads as tandrekily-utf8
 use Rattle.tandrekily.proofs.tandrekily_unix_seconds.Reads as tandrekily-unix-seconds
@@ -92,6 +106,7 @@ use Rattle.avps.proofs.AnswerOf as avps-answers
 use Rattle.diameter.proofs.AnswerOf as diameter-answers
 use Rattle.record.proofs.AnswerOf as writer-answers
 use Rattle.radius.proofs.AnswerOf as packet-answers
+use Rattle.radius_value.proofs.ValueAs.{value-as-injective}
 
 -- One outcome, where a function lends nothing that it may change: two results that meet the contract are the same. The arguments
 -- stand with the lifetimes of the call, and with the parameters at exit.
@@ -136,7 +151,19 @@ to-be-u64-one κs a r r′ s p q = p ∙ sym q
 length-one : Single length.Post
 length-one κs a r r′ s p q = p ∙ sym q
 
--- ---- rfc3629
+-- ---- rfc3629 and utf8
+
+is-utf8-1-one : Single is-utf8-1.Post
+is-utf8-1-one κs a r r′ s p q = p ∙ sym q
+
+is-utf8-2-one : Single is-utf8-2.Post
+is-utf8-2-one κs a r r′ s p q = p ∙ sym q
+
+is-utf8-3-one : Single is-utf8-3.Post
+is-utf8-3-one κs a r r′ s p q = p ∙ sym q
+
+is-utf8-4-one : Single is-utf8-4.Post
+is-utf8-4-one κs a r r′ s p q = p ∙ sym q
 
 check-one : Single check.Post
 check-one κs a r r′ s p q = p ∙ sym q
@@ -392,10 +419,13 @@ write-one κs fields table pool out r r′ after after′ p q =
     let at-exit′ = q .1 in
     (e, cc)
 
--- ---- radius and radius_writer
+-- ---- radius_value, radius and radius_writer
 
 type-kind-one : Single type-kind.Post
 type-kind-one κs a r r′ s p q = p ∙ sym q
+
+attribute-value-read-one : Single attribute-value-read.Post
+attribute-value-read-one κs a r r′ s p q = value-as-injective r r′ (p ∙ sym q)
 
 parse-packet-one : (κs : Lfts 2) (input store : Slice) → Settled (ParsePacket κs input store)
 parse-packet-one κs input store r r′ after after′ p q =
@@ -410,6 +440,35 @@ write-packet-one κs fields table pool out r r′ after after′ p q =
     let at-exit = p .1 in
     let at-exit′ = q .1 in
     (e, cc)
+
+-- ---- results
+
+of-message-one : Single of-message.Post
+of-message-one κs a r r′ s p q = p ∙ sym q
+
+of-header-one : Single of-header.Post
+of-header-one κs a r r′ s p q = p ∙ sym q
+
+of-avp-one : Single of-avp.Post
+of-avp-one κs a r r′ s p q = p ∙ sym q
+
+of-written-one : Single of-written.Post
+of-written-one κs a r r′ s p q = p ∙ sym q
+
+of-found-one : Single of-found.Post
+of-found-one κs a r r′ s p q = p ∙ sym q
+
+sign-of-one : Single sign-of.Post
+sign-of-one κs a r r′ s p q = p ∙ sym q
+
+packet-lay-one : Single packet-lay.Post
+packet-lay-one κs a r r′ s p q = p ∙ sym q
+
+packet-refused-one : Single packet-refused.Post
+packet-refused-one κs a r r′ s p q = p ∙ sym q
+
+packet-of-written-one : Single packet-of-written.Post
+packet-of-written-one κs a r r′ s p q = p ∙ sym q
 
 -- ---- tandrekily
 

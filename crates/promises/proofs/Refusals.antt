@@ -27,8 +27,10 @@ use Rattle.rfc2865.specs.Packet.{Packet}
 use Rattle.radius.specs.declared.Decoded.the-variants as radius
 use Rattle.radius.specs.Answers as radius-answers
 use Rattle.radius_writer.specs.declared.Fields as packet
-use Rattle.tandrekily.specs.Packets as packets
-use Rattle.tandrekily.specs.Results.{messageResult, avpResult, writtenResult, numberShown, orderShown}
+use Rattle.results.specs.Packets as packets
+use Rattle.results.specs.Results.{messageResult, avpResult, writtenResult}
+use Rattle.tandrekily.specs.Packets.{authenticatorAfter}
+use Rattle.tandrekily.specs.Asked.{numberShown, orderShown}
 use Rattle.promises.proofs.OneOutcome.Calls.{Slice, Parse, ParseAvp, ParseBy, ParseAvpBy, Write, TandrekilyMessage, TandrekilyAvp, TandrekilyMessageBy, TandrekilyAvpBy, TandrekilyWrite, TandrekilyCompare, ParsePacket, WritePacket, TandrekilyRadius, TandrekilyRadiusWrite}
 
 -- ---- in Rattle: the answer is a refusal
@@ -130,9 +132,9 @@ packet-store : (x : Answer Packet) (rs : List Record) (store : List ℕ) → 1 �
 unfolding packets.packetResult stored
 packet-store x rs store = lent-unless-0 packets.packetResult (λ y. stored y rs store) store (λ p. refl) (λ why. refl) x
 
-authenticator-lent : (x : Answer Packet) (lent : List ℕ) → 1 ≤ number (packets.packetResult x) → packets.authenticatorAfter x lent ≡ lent
-unfolding packets.packetResult packets.authenticatorAfter
-authenticator-lent x lent = lent-unless-0 packets.packetResult (λ y. packets.authenticatorAfter y lent) lent (λ p. refl) (λ why. refl) x
+authenticator-lent : (x : Answer Packet) (lent : List ℕ) → 1 ≤ number (packets.packetResult x) → authenticatorAfter x lent ≡ lent
+unfolding packets.packetResult authenticatorAfter
+authenticator-lent x lent = lent-unless-0 packets.packetResult (λ y. authenticatorAfter y lent) lent (λ p. refl) (λ why. refl) x
 
 packet-out : (x : Answer ℕ) (bytes out : List ℕ) → 1 ≤ number (packets.writtenResult x) → output x bytes out ≡ out
 unfolding packets.writtenResult output

@@ -14,8 +14,8 @@ use Rattle.record.proofs.Room.{put-with-room}
 use Rattle.rfc2865.specs.Attribute.{payload}
 use Rattle.rfc2865.specs.Types.{kindOf}
 use Rattle.rfc2865.specs.Records.{dataAs, valueOf, recordOf}
-use Rattle.radius.specs.declared.value.Value.{Value}
-use Rattle.radius.specs.Answers.{valueAs}
+use Rattle.radius_value.specs.declared.Value.{Value}
+use Rattle.radius_value.specs.Values.{valueAs}
 use Rattle.radius.specs.Fill.{Own, Put}
 
 -- as the code makes it, of an attribute's type, its length, its place and its value

@@ -6,7 +6,6 @@ use mathlib.Core.List.{List}
 use lib.ListN.{length, replicate}
 use Rattle.octets.specs.Run.{Tree, tiles, items}
 use Rattle.refusal.specs.Answer.{Answer, accepted, refused, answer}
-use Rattle.record.specs.Value as values
 use Rattle.rfc2865.specs.Attribute.{attributeLength, complete}
 use Rattle.rfc2865.specs.Packet as definition
 use Rattle.rfc2865.specs.Packet.{authenticatorSize, packetLength, headerRefusals}
@@ -14,7 +13,6 @@ use Rattle.radius.specs.declared.attributes.First.{First}
 use Rattle.radius.specs.declared.attributes.First.the-variants as first
 use Rattle.radius.specs.declared.attributes.Counted.{Counted}
 use Rattle.radius.specs.declared.attributes.Counted.the-variants as counted
-use Rattle.radius.specs.declared.value.Value.{Value}
 use Rattle.radius.specs.declared.Measured.{Measured}
 use Rattle.radius.specs.declared.Measured.the-variants as measured
 use Rattle.radius.specs.declared.Packet.{Packet}
@@ -29,9 +27,6 @@ firstOf s = cond (complete s) (first.Whole (attributeLength s)) first.Broken
 
 unfoldable pub countOf : Tree → Counted
 countOf t = cond (tiles t) (counted.Tiled (length (items t))) counted.Broken
-
-unfoldable pub valueAs : Value → values.Value
-valueAs v = record { kind = v .kind; errors = v .errors; number = v .number }
 
 -- ---- the header
 

@@ -64,7 +64,7 @@ fn read_attribute(s: &[u8], place: usize, store: &mut [u8]) -> u8
     ensures { λ r. ⌜ Put (now (s .entry)) place r (now (store .entry)) (now (store .exit)) ⌝ }
 {
     let code = s[0];
-    let value = super::value::read(super::types::kind(code), &s[HEADER_SIZE..]);
+    let value = radius_value::read(radius_value::types::kind(code), &s[HEADER_SIZE..]);
     Record {
         code: code as u32,
         flags: 0,

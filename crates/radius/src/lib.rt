@@ -1,8 +1,6 @@
 // RADIUS (RFC 2865): a packet, from a lent slice to a header, records in a lent store, error flags, counts and a length.
 // The attributes are counted first and nothing is written until they are known to fit, so a refusal has changed no byte.
 mod attributes;
-pub mod types;
-mod value;
 
 use attributes::Counted;
 use octets::at_hand::Available;

@@ -1,79 +1,63 @@
-// Is a text well-formed UTF-8, and if not, up to where? The byte ranges of RFC 3629, section 4, decide, and syntax.rt has them; here a text
-// is read by them from the front, and ascii.rt is for speed. This crate knows nothing of Diameter.
-mod ascii;
-mod syntax;
-
+// The byte ranges of RFC 3629, section 4, in their order, each line beside the RFC's own: is it a character of so many bytes?
+// Tests are joined by `&` and `|`, which do not branch. This crate knows one character, and nothing of the text that it stands in.
 ghost use mathlib.Core.Path.{_≡_};
-ghost use Rattle.rfc3629.specs.Utf8.{charSize, wellFormed};
-ghost use Rattle.rfc3629.specs.Checked.{checked};
+ghost use mathlib.Core.List.{[], _∷_};
+ghost use Rattle.rfc3629.specs.Abnf.{byte, range};
+ghost use Rattle.rfc3629.specs.Syntax.{UTF8-tail, UTF8-1, UTF8-2, UTF8-3, UTF8-4};
+ghost use Rattle.rfc3629.specs.Utf8.{within, matchesAny};
 
-/// What the check says of a text.
-pub enum Utf8 {
-    WellFormed,
-    /// The length in bytes of the longest prefix that is well-formed.
-    ValidUpTo(usize),
+/// UTF8-1      = %x00-7F
+pub fn is_utf8_1(a: u8) -> bool
+    ensures { λ r. ⌜ r ≡ matchesAny UTF8-1 (a ∷ []) ⌝ }
+{
+    in_range(a, 0x00, 0x7F)
 }
 
-// UTF8-octets = *( UTF8-char )
-pub fn check(s: &[u8]) -> Utf8
-    ensures { λ r. ⌜ r ≡ checked (now (s .entry)) ⌝ }
+/// UTF8-2      = %xC2-DF UTF8-tail
+pub fn is_utf8_2(a: u8, b: u8) -> bool
+    ensures { λ r. ⌜ r ≡ matchesAny UTF8-2 (a ∷ b ∷ []) ⌝ }
 {
-    let mut at: usize = 0;
-    loop {
-        // for speed: without this line the answer is the same
-        at += ascii::run(&s[at..]);
-        if at == s.len() {
-            return Utf8::WellFormed;
-        }
-        let size = char_size(&s[at..]);
-        if size == 0 {
-            return Utf8::ValidUpTo(at);
-        }
-        at += size;
-    }
+    in_range(a, 0xC2, 0xDF) & is_tail(b)
 }
 
-pub fn is_utf8(s: &[u8]) -> bool
-    ensures { λ r. ⌜ r ≡ wellFormed (now (s .entry)) ⌝ }
+/// UTF8-3      = %xE0 %xA0-BF UTF8-tail / %xE1-EC 2( UTF8-tail ) /
+///               %xED %x80-9F UTF8-tail / %xEE-EF 2( UTF8-tail )
+pub fn is_utf8_3(a: u8, b: u8, c: u8) -> bool
+    ensures { λ r. ⌜ r ≡ matchesAny UTF8-3 (a ∷ b ∷ c ∷ []) ⌝ }
 {
-    match check(s) {
-        Utf8::WellFormed => true,
-        Utf8::ValidUpTo(_) => false,
-    }
+    (is_byte(a, 0xE0) & in_range(b, 0xA0, 0xBF) & is_tail(c))
+        | (in_range(a, 0xE1, 0xEC) & is_tail(b) & is_tail(c))
+        | (is_byte(a, 0xED) & in_range(b, 0x80, 0x9F) & is_tail(c))
+        | (in_range(a, 0xEE, 0xEF) & is_tail(b) & is_tail(c))
 }
 
-// UTF8-char   = UTF8-1 / UTF8-2 / UTF8-3 / UTF8-4
-// How many bytes the one at the front takes; 0 where there is none.
-fn char_size(s: &[u8]) -> usize
-    ensures { λ r. ⌜ r ≡ charSize (now (s .entry)) ⌝ }
+/// UTF8-4      = %xF0 %x90-BF 2( UTF8-tail ) / %xF1-F3 3( UTF8-tail ) /
+///               %xF4 %x80-8F 2( UTF8-tail )
+pub fn is_utf8_4(a: u8, b: u8, c: u8, d: u8) -> bool
+    ensures { λ r. ⌜ r ≡ matchesAny UTF8-4 (a ∷ b ∷ c ∷ d ∷ []) ⌝ }
 {
-    let n = s.len();
-    if n < 1 {
-        return 0;
-    }
-    let a = s[0];
-    if syntax::is_utf8_1(a) {
-        return 1;
-    }
-    if n < 2 {
-        return 0;
-    }
-    let b = s[1];
-    if syntax::is_utf8_2(a, b) {
-        return 2;
-    }
-    if n < 3 {
-        return 0;
-    }
-    let c = s[2];
-    if syntax::is_utf8_3(a, b, c) {
-        return 3;
-    }
-    if n < 4 {
-        return 0;
-    }
-    if syntax::is_utf8_4(a, b, c, s[3]) {
-        return 4;
-    }
-    0
+    (is_byte(a, 0xF0) & in_range(b, 0x90, 0xBF) & is_tail(c) & is_tail(d))
+        | (in_range(a, 0xF1, 0xF3) & is_tail(b) & is_tail(c) & is_tail(d))
+        | (is_byte(a, 0xF4) & in_range(b, 0x80, 0x8F) & is_tail(c) & is_tail(d))
+}
+
+// UTF8-tail   = %x80-BF
+fn is_tail(b: u8) -> bool
+    ensures { λ r. ⌜ r ≡ within UTF8-tail b ⌝ }
+{
+    in_range(b, 0x80, 0xBF)
+}
+
+// %xB
+fn is_byte(b: u8, value: u8) -> bool
+    ensures { λ r. ⌜ r ≡ within (byte value) b ⌝ }
+{
+    b == value
+}
+
+// %xLOW-HIGH
+fn in_range(b: u8, low: u8, high: u8) -> bool
+    ensures { λ r. ⌜ r ≡ within (range low high) b ⌝ }
+{
+    (low <= b) & (b <= high)
 }

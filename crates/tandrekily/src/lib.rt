@@ -1,198 +1,28 @@
 // The library for C and Rust: each public way to decode and to write, over numbers and byte slices, by the C calling convention.
-// This crate knows how an answer is laid out as numbers, and nothing of how it comes about.
+// This crate knows what each function is asked; how the answer is laid out as numbers is that of results.
 pub mod packets;
 
 use attribute::Reading;
-use avps::Counts;
-use avps::Filled;
-use diameter::Decoded;
 use header::Header;
-use header::Parsed;
-use reader::Found;
-use record::outline::Outline;
-use record::written::Written;
-use refusal::Refusal;
-use rfc3629::Utf8;
+use results::OUTLINE;
+use results::RESULT;
 use unit_value::Compared;
-use unit_value::Ordering;
 use unit_value::UnitValue;
+use utf8::Utf8;
 use writer::Fields;
 ghost use mathlib.Core.Path.{_≡_};
 ghost use Rattle.rfc3629.specs.Utf8.{wellFormed, validUpTo};
 ghost use Rattle.rfc6733.specs.Decoder.{headerAlone};
 ghost use Rattle.rfc6733.specs.Search.{sought};
 ghost use Rattle.rfc6733.specs.Signed.{signed, unixSeconds};
-ghost use Rattle.header.specs.Parsed as header;
-ghost use Rattle.header.specs.Parsed.{headerAs};
-ghost use Rattle.avps.specs.Answers as avps;
-ghost use Rattle.avps.specs.Answers.{countsAs};
-ghost use Rattle.diameter.specs.Answers.{answerOf};
-ghost use Rattle.reader.specs.Reading as reader;
 ghost use Rattle.reader.specs.Reading.{stepAt};
-ghost use Rattle.record.specs.Written as written;
-ghost use Rattle.tandrekily.specs.Results.{readingOf, result, refusal, messageResult, avpResult, writtenResult, outlineResult, foundResult, stepResult, messageAsked, avpAsked, messageAskedBy, avpAskedBy, writeResult, messageStore, avpStore, messageStoreBy, avpStoreBy, writeOutput, signOf, numberShown, orderShown, comparedGiven};
-
-/// How many numbers a result has. include/tandrekily.h names them.
-pub const RESULT: usize = 13;
-
-/// How many numbers an outline's result has.
-pub const OUTLINE: usize = 10;
-
-const NO_COUNTS: Counts = Counts {
-    errors: 0,
-    records: 0,
-    tried: 0,
-    length: 0,
-};
-
-const NO_HEADER: Header = Header {
-    version: 0,
-    length: 0,
-    flags: 0,
-    code: 0,
-    app_id: 0,
-    hop_id: 0,
-    end_id: 0,
-};
-
-const NO_OUTLINE: Outline = Outline {
-    code: 0,
-    flags: 0,
-    length: 0,
-    vendor: 0,
-    place: 0,
-    padding: 0,
-    pads: 0,
-};
+ghost use Rattle.results.specs.Results.{messageResult, avpResult, foundResult};
+ghost use Rattle.tandrekily.specs.Asked.{readingOf, stepResult, messageAsked, avpAsked, messageAskedBy, avpAskedBy, writeResult, messageStore, avpStore, messageStoreBy, avpStoreBy, writeOutput, numberShown, orderShown, comparedGiven};
 
 fn reading_of(rfc: bool) -> Reading
     ensures { λ r. ⌜ r ≡ readingOf rfc ⌝ }
 {
     if rfc { Reading::Rfc } else { Reading::Sawp }
-}
-
-fn lay(number: u64, amount: usize, counts: Counts, header: Header) -> [u64; RESULT]
-    ensures { λ r. ⌜ r ≡ result number amount (countsAs counts) (headerAs header) ⌝ }
-{
-    [
-        number,
-        amount as u64,
-        counts.errors as u64,
-        counts.records as u64,
-        counts.tried as u64,
-        counts.length as u64,
-        header.version as u64,
-        header.length as u64,
-        header.flags as u64,
-        header.code as u64,
-        header.app_id as u64,
-        header.hop_id as u64,
-        header.end_id as u64,
-    ]
-}
-
-fn refused(why: Refusal) -> [u64; RESULT]
-    ensures { λ r. ⌜ r ≡ refusal why ⌝ }
-{
-    lay(why.number() as u64, why.amount(), NO_COUNTS, NO_HEADER)
-}
-
-fn of_message(d: Decoded) -> [u64; RESULT]
-    ensures { λ r. ⌜ r ≡ messageResult (answerOf d) ⌝ }
-{
-    match d {
-        Decoded::Accepted(m) => {
-            let header = m.header;
-            let counts = Counts {
-                errors: m.errors,
-                records: m.records,
-                tried: m.tried,
-                length: m.length,
-            };
-            lay(0, 0, counts, header)
-        }
-        Decoded::Refused(why) => refused(why),
-    }
-}
-
-fn of_header(p: Parsed) -> [u64; RESULT]
-    ensures { λ r. ⌜ r ≡ messageResult (header.answerOf p) ⌝ }
-{
-    match p {
-        Parsed::Accepted { header, errors } => {
-            let counts = Counts {
-                errors,
-                records: 0,
-                tried: 0,
-                length: Header::SIZE,
-            };
-            lay(0, 0, counts, header)
-        }
-        Parsed::Refused(why) => refused(why),
-    }
-}
-
-fn of_avp(d: Filled) -> [u64; RESULT]
-    ensures { λ r. ⌜ r ≡ avpResult (avps.answerOf d) ⌝ }
-{
-    match d {
-        Filled::Accepted(counts) => lay(0, 0, counts, NO_HEADER),
-        Filled::Refused(why) => refused(why),
-    }
-}
-
-fn of_written(w: Written) -> [u64; RESULT]
-    ensures { λ r. ⌜ r ≡ writtenResult (written.answerOf w) ⌝ }
-{
-    match w {
-        Written::Accepted(total) => {
-            let counts = Counts {
-                errors: 0,
-                records: 0,
-                tried: 0,
-                length: total,
-            };
-            lay(0, 0, counts, NO_HEADER)
-        }
-        Written::Refused(why) => refused(why),
-    }
-}
-
-fn lay_outline(number: u64, amount: usize, found: u64, o: Outline) -> [u64; OUTLINE]
-    ensures { λ r. ⌜ r ≡ outlineResult number amount found o ⌝ }
-{
-    [
-        number,
-        amount as u64,
-        found,
-        o.code as u64,
-        o.flags as u64,
-        o.length as u64,
-        o.vendor as u64,
-        o.place as u64,
-        o.padding as u64,
-        o.pads as u64,
-    ]
-}
-
-fn of_found(f: Found) -> [u64; OUTLINE]
-    ensures { λ r. ⌜ r ≡ foundResult (reader.answerOf f) ⌝ }
-{
-    match f {
-        Found::At(o) => lay_outline(0, 0, 1, o),
-        Found::None => lay_outline(0, 0, 0, NO_OUTLINE),
-        Found::Refused(why) => lay_outline(why.number() as u64, why.amount(), 0, NO_OUTLINE),
-    }
-}
-
-fn sign_of(o: Ordering) -> i32
-    ensures { λ r. ⌜ r ≡ signOf o ⌝ }
-{
-    match o {
-        Ordering::Less => -1,
-        Ordering::Equal => 0,
-        Ordering::Greater => 1,
-    }
 }
 
 /// Decodes the message at the front of `input` into records in `store`.
@@ -207,7 +37,7 @@ pub extern "C" fn tandrekily_message(
     ensures result { λ _. ⌜ now (result .exit) ≡ messageResult (messageAsked rfc limit (now (store .entry)) (now (input .entry))) ⌝ }
     ensures store { λ _. ⌜ now (store .exit) ≡ messageStore rfc limit (now (store .entry)) (now (input .entry)) ⌝ }
 {
-    *result = of_message(diameter::parse(reading_of(rfc), limit, input, store));
+    *result = results::of_message(diameter::parse(reading_of(rfc), limit, input, store));
 }
 
 /// The same by an edition of the credit-control dictionary, 4006 or 8506.
@@ -222,7 +52,7 @@ pub extern "C" fn tandrekily_message_by(
     ensures result { λ _. ⌜ now (result .exit) ≡ messageResult (messageAskedBy edition limit (now (store .entry)) (now (input .entry))) ⌝ }
     ensures store { λ _. ⌜ now (store .exit) ≡ messageStoreBy edition limit (now (store .entry)) (now (input .entry)) ⌝ }
 {
-    *result = of_message(diameter::parse_by(edition, limit, input, store));
+    *result = results::of_message(diameter::parse_by(edition, limit, input, store));
 }
 
 /// Reads the header at the front of `input` alone.
@@ -230,7 +60,7 @@ pub extern "C" fn tandrekily_message_by(
 pub extern "C" fn tandrekily_header(input: &[u8], result: &mut [u64; RESULT])
     ensures { λ _. ⌜ now (result .exit) ≡ messageResult (headerAlone (now (input .entry))) ⌝ }
 {
-    *result = of_header(Header::parse(input));
+    *result = results::of_header(Header::parse(input));
 }
 
 /// Decodes the one AVP at the front of `input`, at depth 1, into records in `store`.
@@ -245,7 +75,7 @@ pub extern "C" fn tandrekily_avp(
     ensures result { λ _. ⌜ now (result .exit) ≡ avpResult (avpAsked rfc limit (now (store .entry)) (now (input .entry))) ⌝ }
     ensures store { λ _. ⌜ now (store .exit) ≡ avpStore rfc limit (now (store .entry)) (now (input .entry)) ⌝ }
 {
-    *result = of_avp(diameter::parse_avp(reading_of(rfc), limit, input, store));
+    *result = results::of_avp(diameter::parse_avp(reading_of(rfc), limit, input, store));
 }
 
 /// The same by an edition of the credit-control dictionary, 4006 or 8506.
@@ -260,7 +90,7 @@ pub extern "C" fn tandrekily_avp_by(
     ensures result { λ _. ⌜ now (result .exit) ≡ avpResult (avpAskedBy edition limit (now (store .entry)) (now (input .entry))) ⌝ }
     ensures store { λ _. ⌜ now (store .exit) ≡ avpStoreBy edition limit (now (store .entry)) (now (input .entry)) ⌝ }
 {
-    *result = of_avp(diameter::parse_avp_by(edition, limit, input, store));
+    *result = results::of_avp(diameter::parse_avp_by(edition, limit, input, store));
 }
 
 /// The first AVP with this code at the top level of the message at the front of `input`.
@@ -268,7 +98,7 @@ pub extern "C" fn tandrekily_avp_by(
 pub extern "C" fn tandrekily_find(input: &[u8], code: u32, result: &mut [u64; OUTLINE])
     ensures { λ _. ⌜ now (result .exit) ≡ foundResult (sought code (now (input .entry))) ⌝ }
 {
-    *result = of_found(reader::find(input, code));
+    *result = results::of_found(reader::find(input, code));
 }
 
 /// The AVP at `place` of a message, and the place past it.
@@ -283,7 +113,7 @@ pub extern "C" fn tandrekily_next(
 {
     let s = reader::next(message, place);
     let found = s.found;
-    *result = of_found(found.answer());
+    *result = results::of_found(found.answer());
     s.place
 }
 
@@ -310,7 +140,7 @@ pub extern "C" fn tandrekily_write(
         hop_id,
         end_id,
     };
-    *result = of_written(writer::write(fields, table, pool, out));
+    *result = results::of_written(writer::write(fields, table, pool, out));
 }
 
 /// Is the text well-formed UTF-8 (RFC 3629)?
@@ -318,7 +148,7 @@ pub extern "C" fn tandrekily_write(
 pub extern "C" fn tandrekily_is_utf8(text: &[u8]) -> bool
     ensures { λ r. ⌜ r ≡ wellFormed (now (text .entry)) ⌝ }
 {
-    rfc3629::is_utf8(text)
+    utf8::is_utf8(text)
 }
 
 /// The length in bytes of the text's longest prefix that is well-formed UTF-8 (RFC 3629): its own length where it is well-formed.
@@ -326,7 +156,7 @@ pub extern "C" fn tandrekily_is_utf8(text: &[u8]) -> bool
 pub extern "C" fn tandrekily_utf8(text: &[u8]) -> usize
     ensures { λ r. ⌜ r ≡ validUpTo (now (text .entry)) ⌝ }
 {
-    match rfc3629::check(text) {
+    match utf8::check(text) {
         Utf8::WellFormed => text.len(),
         Utf8::ValidUpTo(n) => n,
     }
@@ -375,7 +205,7 @@ pub extern "C" fn tandrekily_compare(
     };
     match unit_value::compare(a, b) {
         Compared::Is(o) => {
-            *order = sign_of(o);
+            *order = results::sign_of(o);
             0
         }
         Compared::Refused(why) => why.number(),

@@ -2,63 +2,10 @@
 use radius::Decoded;
 use radius::Packet;
 use radius_writer::Fields;
-use record::written::Written;
-use refusal::Refusal;
+use results::packets::RESULT;
 ghost use mathlib.Core.Path.{_≡_};
-ghost use Rattle.record.specs.Written.{answerOf};
-ghost use Rattle.tandrekily.specs.Packets.{result, countsOf, refusal, writtenResult, packetResult, packetAsked, packetStore, authenticatorAfter, writeResult, writeOutput};
-
-/// How many numbers a packet's result has. include/tandrekily.h names them.
-pub const RESULT: usize = 8;
-
-const NO_PACKET: Packet = Packet {
-    code: 0,
-    identifier: 0,
-    errors: 0,
-    records: 0,
-    tried: 0,
-    length: 0,
-};
-
-fn lay(number: u64, amount: usize, p: Packet) -> [u64; RESULT]
-    ensures { λ r. ⌜ r ≡ result number amount (countsOf p) (p .code) (p .identifier) ⌝ }
-{
-    [
-        number,
-        amount as u64,
-        p.errors as u64,
-        p.records as u64,
-        p.tried as u64,
-        p.length as u64,
-        p.code as u64,
-        p.identifier as u64,
-    ]
-}
-
-fn refused(why: Refusal) -> [u64; RESULT]
-    ensures { λ r. ⌜ r ≡ refusal why ⌝ }
-{
-    lay(why.number() as u64, why.amount(), NO_PACKET)
-}
-
-fn of_written(w: Written) -> [u64; RESULT]
-    ensures { λ r. ⌜ r ≡ writtenResult (answerOf w) ⌝ }
-{
-    match w {
-        Written::Accepted(total) => {
-            let written = Packet {
-                code: 0,
-                identifier: 0,
-                errors: 0,
-                records: 0,
-                tried: 0,
-                length: total,
-            };
-            lay(0, 0, written)
-        }
-        Written::Refused(why) => refused(why),
-    }
-}
+ghost use Rattle.results.specs.Packets.{packetResult};
+ghost use Rattle.tandrekily.specs.Packets.{packetAsked, packetStore, authenticatorAfter, writeResult, writeOutput};
 
 /// Decodes the RADIUS packet at the front of `input` into records in `store`, and gives its authenticator.
 #[no_mangle]
@@ -78,10 +25,10 @@ pub extern "C" fn tandrekily_radius(
     match decoded {
         Decoded::Accepted(p) => {
             *authenticator = given;
-            *result = lay(0, 0, p);
+            *result = results::packets::lay(0, 0, p);
         }
         Decoded::Refused(why) => {
-            *result = refused(why);
+            *result = results::packets::refused(why);
         }
     }
 }
@@ -105,5 +52,5 @@ pub extern "C" fn tandrekily_radius_write(
         identifier,
         authenticator: *authenticator,
     };
-    *result = of_written(radius_writer::write(fields, table, pool, out));
+    *result = results::packets::of_written(radius_writer::write(fields, table, pool, out));
 }

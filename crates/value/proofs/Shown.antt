@@ -10,10 +10,10 @@ use lib.Dec.{ltb, eqb}
 use borrow.Author.Tests.{lt-ltb, le-ltb, eqb-false}
 use Rattle.octets.specs.Octets.{be, Reads}
 use Rattle.octets.proofs.Numbers.{bytes, read-at}
-use Rattle.rfc3629.specs.Checked.{checked}
-use Rattle.rfc3629.specs.declared.Utf8.{Utf8}
-use Rattle.rfc3629.specs.declared.Utf8.the-variants.{WellFormed, ValidUpTo}
-use Rattle.rfc3629.proofs.Answers.{Says, says}
+use Rattle.utf8.specs.Checked.{checked}
+use Rattle.utf8.specs.declared.Utf8.{Utf8}
+use Rattle.utf8.specs.declared.Utf8.the-variants.{WellFormed, ValidUpTo}
+use Rattle.utf8.proofs.Answers.{Says, says}
 use Rattle.flags.specs.Flags.{dataValue, dataLength, flag}
 use Rattle.record.specs.Value as values
 use Rattle.rfc6733.specs.Value.{kinds32, kinds64, fixed, dataAs}

@@ -5,8 +5,8 @@ use mathlib.Core.Bool.{cond}
 use mathlib.Core.List.{List}
 use lib.ListN.{length}
 use lib.Dec.{ltb, eqb}
-use Rattle.rfc3629.specs.declared.Utf8.{Utf8}
-use Rattle.rfc3629.specs.declared.Utf8.the-variants.{WellFormed, ValidUpTo}
+use Rattle.utf8.specs.declared.Utf8.{Utf8}
+use Rattle.utf8.specs.declared.Utf8.the-variants.{WellFormed, ValidUpTo}
 use Rattle.flags.specs.Flags.{dataValue}
 use Rattle.record.specs.Kinds as kinds
 use Rattle.record.specs.Value as values

@@ -16,7 +16,7 @@ use record::kinds::UNHANDLED;
 use record::kinds::UNSIGNED32;
 use record::kinds::UNSIGNED64;
 use record::kinds::UTF8_STRING;
-use rfc3629::Utf8;
+use utf8::Utf8;
 ghost use mathlib.Core.Path.{_≡_};
 ghost use mathlib.Core.Bool.{true, cond};
 ghost use Rattle.rfc6733.specs.Dictionary.{bareAddress, familyAddress};
@@ -250,9 +250,9 @@ impl Value {
             INTEGER32 | UNSIGNED32 | FLOAT32 | ENUMERATED | TIME => Read::fixed_32(kind, data),
             INTEGER64 | UNSIGNED64 | FLOAT64 => Read::fixed_64(kind, data),
             GROUPED => Read::group(front::tiles(data)),
-            UTF8_STRING => Read::text(rfc3629::check(data), Value::UTF8String),
-            DIAMETER_IDENTITY => Read::text(rfc3629::check(data), Value::DiameterIdentity),
-            DIAMETER_URI => Read::text(rfc3629::check(data), Value::DiameterURI),
+            UTF8_STRING => Read::text(utf8::check(data), Value::UTF8String),
+            DIAMETER_IDENTITY => Read::text(utf8::check(data), Value::DiameterIdentity),
+            DIAMETER_URI => Read::text(utf8::check(data), Value::DiameterURI),
             ADDRESS => {
                 if families {
                     Read::family_address(data)

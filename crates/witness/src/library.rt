@@ -1,8 +1,8 @@
 // The library's functions, on the message P8 (docs/FORMAT.md, 10): a Result-Code with a fifth data byte.
 use crate::print;
 use record::Record;
-use tandrekily::OUTLINE;
-use tandrekily::RESULT;
+use results::OUTLINE;
+use results::RESULT;
 
 const P8: [u8; 36] =
     *b"\x01\0\0\x24\0\0\0\0\0\0\0\0\0\0\0\0\0\0\0\0\0\0\x01\x0C\0\0\0\x0D\0\0\x07\xD1\0\0\0\0";

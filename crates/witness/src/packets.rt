@@ -1,7 +1,7 @@
 // The library's functions for RADIUS, on an Accounting-Request with a byte behind it: a Session-Id, and a time of five bytes.
 use crate::print;
 use record::Record;
-use tandrekily::packets::RESULT;
+use results::packets::RESULT;
 
 const PACKET: [u8; 32] =
     *b"\x04\x07\0\x1F\x10\x11\x12\x13\x14\x15\x16\x17\x18\x19\x1A\x1B\x1C\x1D\x1E\x1F\x2C\x04A3\x2E\x07\0\0\0\x01\0\xFF";

@@ -1,7 +1,7 @@
 // Lines on standard output: a label, then words and numbers, each after a space.
-use tandrekily::OUTLINE;
-use tandrekily::RESULT;
-use tandrekily::packets;
+use results::OUTLINE;
+use results::RESULT;
+use results::packets;
 
 const OUT: i32 = 1;
 

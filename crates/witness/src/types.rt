@@ -4,7 +4,7 @@ use crate::print;
 fn of_type(code: u8) {
     print::label(b"radius");
     print::number(code as u64);
-    print::number(radius::types::kind(code) as u64);
+    print::number(radius_value::types::kind(code) as u64);
     print::end();
 }
 

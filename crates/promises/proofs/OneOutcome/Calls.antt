@@ -8,9 +8,9 @@ use contract.Lifetimes.{Lfts}
 use denote.Ref.{RefT}
 use Rattle.attribute.specs.declared.Reading.{Reading}
 use Rattle.attribute.specs.declared.Dictionary.{Dictionary}
-use Rattle.rfc3629.specs.declared.Utf8.{Utf8}
-use Rattle.rfc3629.proofs.check.Reads as check
-use Rattle.rfc3629.proofs.is_utf8.Reads as is-utf8
+use Rattle.utf8.specs.declared.Utf8.{Utf8}
+use Rattle.utf8.proofs.check.Reads as check
+use Rattle.utf8.proofs.is_utf8.Reads as is-utf8
 use Rattle.record.specs.Record.{Record}
 use Rattle.record.proofs.Record.put.Reads as put
 use Rattle.record.proofs.clear.Reads as clear

@@ -1,5 +1,5 @@
 -- `reading_of` meets its contract: the two values are the two readings.
-use Rattle.tandrekily.specs.Results.{readingOf}
+use Rattle.tandrekily.specs.Asked.{readingOf}
 use Rattle.tandrekily.proofs.reading_of.Statement.{statement}
 use Rattle.tandrekily.proofs.reading_of.Tie as tie
 

@@ -10,7 +10,8 @@ use Rattle.refusal.specs.Answer.{Answer}
 use Rattle.unit_value.specs.declared.Ordering.{Ordering}
 use Rattle.unit_value.specs.declared.Ordering.the-variants.{Less, Equal, Greater}
 use Rattle.unit_value.specs.UnitValues.{compared, answerOf}
-use Rattle.tandrekily.specs.Results.{comparedGiven, signOf, numberShown, orderShown}
+use Rattle.results.specs.Results.{signOf}
+use Rattle.tandrekily.specs.Asked.{comparedGiven, numberShown, orderShown}
 use Rattle.tandrekily.proofs.tandrekily_compare.Statement.{statement}
 use Rattle.tandrekily.proofs.tandrekily_compare.Tie as tie
 

@@ -1,7 +1,7 @@
 -- `tandrekily_find` meets its contract: it lays out what `reader::find` answers.
 use mathlib.Core.Path.{ap, _∙_}
 use borrow.Author.Needs.{needs}
-use Rattle.tandrekily.specs.Results.{foundResult}
+use Rattle.results.specs.Results.{foundResult}
 use Rattle.tandrekily.proofs.tandrekily_find.Statement.{statement}
 use Rattle.tandrekily.proofs.tandrekily_find.Tie as tie
 

@@ -1,7 +1,7 @@
 -- `tandrekily_header` meets its contract: it lays out what `Header::parse` answers.
 use mathlib.Core.Path.{ap, _∙_}
 use borrow.Author.Needs.{needs}
-use Rattle.tandrekily.specs.Results.{messageResult}
+use Rattle.results.specs.Results.{messageResult}
 use Rattle.tandrekily.proofs.tandrekily_header.Statement.{statement}
 use Rattle.tandrekily.proofs.tandrekily_header.Tie as tie
 

@@ -1,9 +1,9 @@
 -- `tandrekily_utf8` meets its contract: a text that is well-formed is its own longest prefix, and of another the check says how long that is.
 use mathlib.Core.Path.{sym, _∙_}
 use borrow.Author.Needs.{needs}
-use Rattle.rfc3629.specs.declared.Utf8.the-variants.{WellFormed, ValidUpTo}
+use Rattle.utf8.specs.declared.Utf8.the-variants.{WellFormed, ValidUpTo}
 use Rattle.rfc3629.proofs.Prefixes.{reaches-end}
-use Rattle.rfc3629.proofs.Answers.{says}
+use Rattle.utf8.proofs.Answers.{says}
 use Rattle.tandrekily.proofs.tandrekily_utf8.Statement.{statement}
 use Rattle.tandrekily.proofs.tandrekily_utf8.Tie as tie
 

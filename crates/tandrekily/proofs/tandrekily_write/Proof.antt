@@ -1,7 +1,7 @@
 -- `tandrekily_write` meets its contract: it lays out what `writer::write` answers, which writes the output.
 use borrow.Author.Needs.{needs}
 use Rattle.writer.specs.Answers.{fieldsAs}
-use Rattle.tandrekily.specs.Results.{fieldsGiven}
+use Rattle.tandrekily.specs.Asked.{fieldsGiven}
 use Rattle.tandrekily.proofs.tandrekily_write.Statement.{statement}
 use Rattle.tandrekily.proofs.tandrekily_write.Tie as tie
 

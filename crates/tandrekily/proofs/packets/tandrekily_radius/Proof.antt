@@ -7,7 +7,8 @@ use Rattle.refusal.specs.Answer.{Answer}
 use Rattle.rfc2865.specs.Packet.{Packet}
 use Rattle.radius.specs.declared.Decoded.{Decoded}
 use Rattle.radius.specs.Answers.{packetAs, answerWith}
-use Rattle.tandrekily.specs.Packets.{packetResult, packetAsked, authenticatorAfter}
+use Rattle.results.specs.Packets.{packetResult}
+use Rattle.tandrekily.specs.Packets.{packetAsked, authenticatorAfter}
 use Rattle.tandrekily.proofs.packets.tandrekily_radius.Statement.{statement}
 use Rattle.tandrekily.proofs.packets.tandrekily_radius.Tie as tie
 

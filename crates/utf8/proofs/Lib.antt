@@ -1,0 +1,3 @@
+mod Runs
+mod Characters
+pub mod Answers
