@@ -33,7 +33,7 @@ extern "C" {
 #endif
 
 // The version of this library.
-#define TANDREKILY_VERSION "0.1.0"
+#define TANDREKILY_VERSION "0.2.0"
 
 // ---- results
 
