@@ -18,7 +18,7 @@ const NO_PACKET: Packet = Packet {
     length: 0,
 };
 
-/// What an acceptance of a packet returns.
+/// An answer's number and amount, and behind them a packet's numbers.
 pub fn lay(number: u64, amount: usize, p: Packet) -> [u64; RESULT]
     ensures { λ r. ⌜ r ≡ result number amount (countsOf p) (p .code) (p .identifier) ⌝ }
 {
@@ -34,7 +34,7 @@ pub fn lay(number: u64, amount: usize, p: Packet) -> [u64; RESULT]
     ]
 }
 
-/// A refusal.
+/// The refusal of a packet.
 pub fn refused(why: Refusal) -> [u64; RESULT]
     ensures { λ r. ⌜ r ≡ refusal why ⌝ }
 {
