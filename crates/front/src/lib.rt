@@ -1,11 +1,10 @@
 // The AVP at the front of a slice, its padding, and whether AVPs tile.
 // This crate knows an AVP's header and padding, and nothing of what its data mean.
-mod word;
 
 use avp::AVP;
 use octets::at_hand::Available;
 use refusal::Refusal;
-ghost use Prim.Native.Nat.{_≤_};
+ghost use Prim.Native.Nat.{_+_, _≤_};
 ghost use mathlib.Core.Path.{_≡_};
 ghost use mathlib.Core.Bool.{false};
 ghost use lib.ListN.{length};
@@ -27,13 +26,21 @@ pub enum ParsedAvp {
     Refused(Refusal),
 }
 
+// Four bytes of `s` as a number.
+fn word(s: &[u8], at: usize) -> u32
+    requires { ⌜ at + 4 ≤ length (now s) ⌝ }
+    ensures { λ r. ⌜ r ≡ be 4 (now (s .entry)) at ⌝ }
+{
+    octets::word::be_u32(&s[at..at + 4])
+}
+
 // Present only with the vendor bit.
 fn vendor_id(s: &[u8]) -> u32
     requires { ⌜ headSize (flags (now s)) ≤ length (now s) ⌝ }
     ensures { λ r. ⌜ r ≡ vendor (now (s .entry)) ⌝ }
 {
     if AVP::vendor_specific_flag(s[4]) {
-        return word::be_u32(s, 8);
+        return word(s, 8);
     }
     0
 }
@@ -76,7 +83,7 @@ pub fn first_avp(s: &[u8]) -> First
         return First::Broken;
     }
     // A byte of flags, and three of the length (RFC 6733, section 4.1).
-    let flags_length = word::be_u32(s, 4);
+    let flags_length = word(s, 4);
     let flags = (flags_length / 0x100_0000) as u8;
     let length = (flags_length % 0x100_0000) as usize;
     let header_size = AVP::header_size_of(flags);
@@ -88,7 +95,7 @@ pub fn first_avp(s: &[u8]) -> First
         return First::Broken;
     }
     First::Whole(AVP {
-        code: word::be_u32(s, 0),
+        code: word(s, 0),
         flags,
         length,
         vendor_id: vendor_id(s),

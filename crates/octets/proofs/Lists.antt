@@ -1,10 +1,10 @@
 -- Parts of a list, as code lends them, and bytes over the front of others.
 use Prim.Native.Nat.{ℕ, _+_, _-_, _≤_}
-use mathlib.Core.Path.{_≡_, refl, sym, _∙_}
+use mathlib.Core.Path.{_≡_, refl, sym, ap, _∙_}
 use mathlib.Core.List.{List, [], _++_, append-cancel-left, append-assoc, append-nil}
 use native.Mathlib.Omega.{arith}
 use lib.ListN.{length, take, drop, length-append, length-take, length-drop}
-use lib.Seq.{take-all, take-take, take-add, take-length, drop-length, take-at, drop-at, drop-drop, length-take-le}
+use lib.Seq.{sets, sets-eq, take-all, take-take, take-add, take-length, drop-length, take-at, drop-at, drop-drop, length-take-le}
 use borrow.Rule.Slice.PartMut.{putMid}
 use Rattle.octets.specs.Octets.{over}
 
@@ -46,6 +46,11 @@ unfolding over
 over-before a b old n e h =
     rw (e, drop-at _ _ n (length-take-le n old h), drop-drop, length-append, e, append-assoc)
 
+-- n bytes in front, and b over what is after the first n
+pub over-behind : (a b old : List ℕ) (n : ℕ) → length a ≡ n → a ++ over b (drop n old) ≡ over (a ++ b) old
+unfolding over
+over-behind a b old n e = rw (drop-drop, length-append, e, append-assoc)
+
 -- what a copy leaves
 pub copied : (src old : List ℕ) → take (length src) src ++ drop (length src) old ≡ over src old
 unfolding over
@@ -55,3 +60,14 @@ copied src old = rw (take-length src)
 pub lent : (n : ℕ) (s back : List ℕ) → putMid n (length s - n) s back ≡ take n s ++ back
 lent n s back =
     rw (← length-drop n s, drop-length, append-nil)
+
+-- a part that was lent and came back with other bytes over all of it
+pub put-part : (new s : List ℕ) (at : ℕ) → at + length new ≤ length s
+    → putMid at (length new) s (over new (take (length new) (drop at s))) ≡ sets s at new
+unfolding over
+put-part new s at h =
+    let k = length new in
+    let part = take k (drop at s) in
+    let none : drop k part ≡ [] =
+    sym (ap (λ (n : ℕ). drop n part) (length-take-le k (drop at s) (omega (arith, length-drop at s)))) ∙ drop-length part in
+    rw (sets-eq new s at h, none, append-nil, drop-drop, append-assoc)

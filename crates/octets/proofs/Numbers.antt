@@ -20,6 +20,11 @@ be-same (suc n) s t i k h = ap₂ (λ (x y : ℕ). x * 256 + y) (be-same n s t i
 pub be-take : (n : ℕ) (s : List ℕ) (k i : ℕ) → i + n ≤ k → be n (take k s) i ≡ be n s i
 be-take n s k i h = be-same n (take k s) s i i (λ j l. getD-take k s (i + j) 0 (omega arith))
 
+-- of a part that starts at `at`
+pub be-part : (n : ℕ) (s : List ℕ) (k at : ℕ) → n ≤ k → be n (take k (drop at s)) 0 ≡ be n s at
+be-part n s k at h =
+    be-take n (drop at s) k 0 (omega arith) ∙ be-same n (drop at s) s 0 at (λ j l. rw zero-add (getD-drop at s j 0))
+
 pub be-front : (n : ℕ) (s t : List ℕ) (i : ℕ) → i + n ≤ length s → be n (s ++ t) i ≡ be n s i
 be-front n s t i h = be-same n (s ++ t) s i i (λ j l. List·getD-append s t 0 (i + j) (omega arith))
 

@@ -1,38 +1,27 @@
 -- Four bytes that were read the lowest first and turned round: they are the number of these bytes, the highest first. Writing gives back what
--- was read, so the bytes of the first number are the four, the last first. A part of a word is its quotient or its remainder.
-use Prim.Native.Nat.{ℕ, zero, suc, _+_, _/_, _%_, _<_}
-use mathlib.Core.Path.{_≡_, refl, sym, ap, _∙_}
+-- was read, so the bytes of the first number are the four, the last first. A part of a word is its quotient or its remainder, and its
+-- end is moved to the front by a shift.
+use Prim.Native.Nat.{ℕ, zero, suc, _+_, _-_, _*_, _/_, _%_, _^_, _≤_}
+use mathlib.Core.Path.{_≡_, ap, _∙_}
 use mathlib.Core.List.{List, [], _∷_}
-use native.Mathlib.Nat.{add-zero, add-assoc}
+use native.Mathlib.Nat.{add-assoc}
 use native.Mathlib.Omega.{arith}
-use lib.ListN.{getD}
+use lib.ListN.{length, getD, drop, List·getD-eq-default}
+use lib.Seq.{getD-drop}
 use Rattle.octets.specs.Octets.{be, octets, Bytes, Reads}
-use Rattle.octets.proofs.Numbers.{written-read, be-same}
+use Rattle.octets.proofs.Numbers.{written-read}
 use Rattle.octets.specs.Word.{lastFirst}
 
-module _ (s : List ℕ) (at : ℕ) where
-  abbrev inOrder : List ℕ
-  inOrder = getD s at 0 ∷ getD s (at + 1) 0 ∷ getD s (at + 2) 0 ∷ getD s (at + 3) 0 ∷ []
-
-  last-first-bytes : Bytes s → Bytes (lastFirst s at)
-  last-first-bytes h zero = h (at + 3)
-  last-first-bytes h (suc zero) = h (at + 2)
-  last-first-bytes h (suc (suc zero)) = h (at + 1)
-  last-first-bytes h (suc (suc (suc zero))) = h at
+module _ (s : List ℕ) where
+  last-first-bytes : Bytes s → Bytes (lastFirst s)
+  last-first-bytes h zero = h 3
+  last-first-bytes h (suc zero) = h 2
+  last-first-bytes h (suc (suc zero)) = h 1
+  last-first-bytes h (suc (suc (suc zero))) = h 0
   last-first-bytes h (suc (suc (suc (suc i)))) = omega arith
 
-  pub turned-are : Bytes s → (low : ℕ) → Reads 4 (lastFirst s at) low → octets 4 low ≡ lastFirst s at
-  turned-are h low l = ap (octets 4) (l .is) ∙ written-read 4 (lastFirst s at) 0 (omega arith) (last-first-bytes h)
-
-  in-order-at : (j : ℕ) → j < 4 → getD inOrder (0 + j) 0 ≡ getD s (at + j) 0
-  in-order-at zero l = ap (λ (k : ℕ). getD s k 0) (sym (add-zero at))
-  in-order-at (suc zero) l = refl
-  in-order-at (suc (suc zero)) l = refl
-  in-order-at (suc (suc (suc zero))) l = refl
-  in-order-at (suc (suc (suc (suc j)))) l = absurd (omega arith)
-
-  pub word-is : (r : ℕ) → Reads 4 inOrder r → r ≡ be 4 s at
-  word-is r h = h .is ∙ be-same 4 inOrder s 0 at in-order-at
+  pub turned-are : Bytes s → (low : ℕ) → Reads 4 (lastFirst s) low → octets 4 low ≡ lastFirst s
+  turned-are h low l = ap (octets 4) (l .is) ∙ written-read 4 (lastFirst s) 0 (omega arith) (last-first-bytes h)
 
 -- ---- the parts of a word
 
@@ -56,3 +45,25 @@ module _ (s : List ℕ) (h : Bytes s) (at : ℕ) where
   pub high-three : be 4 s at / 256 ≡ be 3 s at
   unfolding be
   high-three = omega (arith, h at, h (at + 1), h (at + 2), h (at + 3))
+
+-- ---- the end of a word
+
+module _ (s : List ℕ) (h : Bytes s) (n : ℕ) (size : length s ≡ n + 4) where
+  -- the bytes behind all but the last p: those that are there, and those that are absent
+  there : (p j i : ℕ) → n + 4 - p + j ≡ n + i → getD (drop (n + 4 - p) s) j 0 ≡ getD s (n + i) 0
+  there p j i e = getD-drop (n + 4 - p) s j 0 ∙ ap (λ (k : ℕ). getD s k 0) e
+
+  absent : (p j : ℕ) → p ≤ 4 → p ≤ j → getD (drop (n + 4 - p) s) j 0 ≡ 0
+  absent p j few past = getD-drop (n + 4 - p) s j 0 ∙ List·getD-eq-default s 0 (omega arith)
+
+  -- the last p of the four bytes from n on, as a number of three bytes: the word shifted by whole bytes
+  pub end-of-word : (p : ℕ) → p ≤ 3 → be 4 s n * 2 ^ (24 - 8 * p) % 0x100000000 % 0x1000000 ≡ be 3 (drop (n + 4 - p) s) 0
+  unfolding be
+  end-of-word zero l = omega (arith, h (n + 0), h (n + 1), h (n + 2), h (n + 3), absent 0 0 (omega arith) (omega arith), absent 0 1 (omega arith) (omega arith), absent 0 2 (omega arith) (omega arith))
+  end-of-word (suc zero) l =
+      omega (arith, h (n + 0), h (n + 1), h (n + 2), h (n + 3), there 1 0 3 (omega arith), absent 1 1 (omega arith) (omega arith), absent 1 2 (omega arith) (omega arith))
+  end-of-word (suc (suc zero)) l =
+      omega (arith, h (n + 0), h (n + 1), h (n + 2), h (n + 3), there 2 0 2 (omega arith), there 2 1 3 (omega arith), absent 2 2 (omega arith) (omega arith))
+  end-of-word (suc (suc (suc zero))) l =
+      omega (arith, h (n + 0), h (n + 1), h (n + 2), h (n + 3), there 3 0 1 (omega arith), there 3 1 2 (omega arith), there 3 2 3 (omega arith))
+  end-of-word (suc (suc (suc (suc p)))) l = absurd (omega arith)

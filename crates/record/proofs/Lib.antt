@@ -3,9 +3,8 @@ pub mod Outlines
 pub mod Absent
 pub mod Copied
 pub mod Fields
-pub mod LastFirst
 pub mod Room
-pub mod Turned
+pub mod Found
 pub mod Whole
 pub mod Rows
 pub mod Tables

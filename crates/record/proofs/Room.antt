@@ -10,7 +10,7 @@ use lib.Dec.{leb}
 use borrow.Author.Tests.{le-leb, lt-leb}
 use Rattle.octets.specs.Octets.{octets, pack, over}
 use Rattle.record.specs.Record.{Record, recordSize, layout, recordBytes}
-use Rattle.record.specs.Store.{put}
+use Rattle.record.specs.Store.{put, putFound}
 
 module _ (r : Record) (s : List ℕ) where
   pub no-room : length s < recordSize → (false ≡ leb recordSize (length s)) × (s ≡ put r s)
@@ -21,6 +21,17 @@ module _ (r : Record) (s : List ℕ) where
       → (true ≡ leb recordSize (length s)) × (sets (sets s 0 (pack (take 4 (layout r)))) 12 (pack (drop 4 (layout r))) ≡ put r s)
   unfolding octets over recordBytes put
   with-room room = let yes = le-leb _ _ room in (sym yes, rw yes (sets-eq (recordBytes r) s 0 room))
+
+-- what was found, in the same way
+module _ (kind errors value : ℕ) (s : List ℕ) where
+  pub nothing-found : length s < recordSize → s ≡ putFound kind errors value s
+  unfolding putFound
+  nothing-found few = rw (lt-leb _ _ few)
+
+  pub found-put : recordSize ≤ length s
+      → sets (sets (sets s 17 (octets 1 kind)) 18 (octets 1 errors)) 24 (octets 8 value) ≡ putFound kind errors value s
+  unfolding putFound
+  found-put room = rw (le-leb _ _ room)
 
 -- what is put where there is room
 pub put-with-room : (r : Record) (s : List ℕ) → recordSize ≤ length s → put r s ≡ over (recordBytes r) s

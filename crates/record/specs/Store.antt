@@ -3,8 +3,9 @@ use Prim.Native.Nat.{ℕ, _-_, _/_}
 use mathlib.Core.Bool.{cond}
 use mathlib.Core.List.{List, _++_}
 use lib.ListN.{length, replicate}
+use lib.Seq.{sets}
 use lib.Dec.{leb}
-use Rattle.octets.specs.Octets.{over}
+use Rattle.octets.specs.Octets.{octets, over}
 use Rattle.refusal.specs.Answer.{Answer, accepted, refused}
 use Rattle.record.specs.Record.{Record, recordSize, recordBytes, laid}
 
@@ -19,6 +20,11 @@ room store = capacity (length store)
 -- a record over the front of a store that has room for it; one that has none stays as lent
 unfoldable pub put : Record → List ℕ → List ℕ
 put r store = cond (leb recordSize (length store)) (over (recordBytes r) store) store
+
+-- kind, error flags and value at their places in the record at the front, where there is room for one
+unfoldable pub putFound : ℕ → ℕ → ℕ → List ℕ → List ℕ
+putFound kind errors value store =
+    cond (leb recordSize (length store)) (sets (sets (sets store 17 (octets 1 kind)) 18 (octets 1 errors)) 24 (octets 8 value)) store
 
 -- the records and zero to its last byte where they were accepted, and as lent where not
 unfoldable pub stored : {A : Type 0} → Answer A → List Record → List ℕ → List ℕ

@@ -2,7 +2,6 @@
 // This crate knows the layout, and nothing of how a record comes about.
 pub mod kinds;
 pub mod outline;
-mod word;
 pub mod written;
 
 ghost use mathlib.Core.Path.{_≡_};
@@ -11,10 +10,10 @@ ghost use Prim.Native.Nat.{_+_, _≤_, _<_};
 ghost use lib.ListN.{length, take, drop, replicate};
 ghost use lib.Seq.{sets};
 ghost use lib.Dec.{leb};
-ghost use Rattle.octets.specs.Octets.{octets, pack, over};
+ghost use Rattle.octets.specs.Octets.{be, octets, pack, over};
 ghost use Rattle.record.specs.Record.{recordSize, layout, recordAt};
 ghost use Rattle.record.specs.Table.{entryAt};
-ghost use Rattle.record.specs.Store.{put};
+ghost use Rattle.record.specs.Store.{put, putFound};
 
 pub struct Record {
     pub code: u32,
@@ -45,13 +44,6 @@ fn put_u8(store: &mut [u8], at: usize, v: u8)
 
 // The bytes of a number turned round. A number is stored turned round and its lowest byte first: the compiler joins such stores
 // into one wide store, and leaves those with the highest byte first as single bytes.
-fn swap_u32(v: u32) -> u32
-    ensures { λ r. ⌜ octets 4 r ≡ reverse (octets 4 v) ⌝ }
-{
-    let b = octets::to_be_u32(v);
-    octets::be_u32(b[3], b[2], b[1], b[0])
-}
-
 fn swap_u64(v: u64) -> u64
     ensures { λ r. ⌜ octets 8 r ≡ reverse (octets 8 v) ⌝ }
 {
@@ -63,11 +55,7 @@ fn put_u32(store: &mut [u8], at: usize, v: u32)
     requires { ⌜ at + 4 ≤ length (now store) ⌝ }
     ensures { λ _. ⌜ now (store .exit) ≡ sets (now (store .entry)) at (octets 4 v) ⌝ }
 {
-    let b = octets::to_be_u32(swap_u32(v));
-    store[at] = b[3];
-    store[at + 1] = b[2];
-    store[at + 2] = b[1];
-    store[at + 3] = b[0];
+    octets::word::put_u32(&mut store[at..at + 4], v);
 }
 
 fn put_u64(store: &mut [u8], at: usize, v: u64)
@@ -99,6 +87,13 @@ fn put_u24_u8(store: &mut [u8], at: usize, high: u32, low: u8)
     ensures { λ _. ⌜ now (store .exit) ≡ sets (now (store .entry)) at (octets 3 high ++ octets 1 low) ⌝ }
 {
     put_u32(store, at, high % 0x100_0000 * 0x100 + low as u32);
+}
+
+fn word(table: &[u8], at: usize) -> u32
+    requires { ⌜ at + 4 ≤ length (now table) ⌝ }
+    ensures { λ r. ⌜ r ≡ be 4 (now (table .entry)) at ⌝ }
+{
+    octets::word::be_u32(&table[at..at + 4])
 }
 
 /// Sets every byte to zero.
@@ -156,6 +151,19 @@ impl Record {
         true
     }
 
+    /// Puts what was found of an AVP's data into the record at the front of a store, if there is room for one: its kind, its error flags
+    /// and its value.
+    pub fn put_found(store: &mut [u8], kind: u8, errors: u8, value: u64)
+        ensures { λ _. ⌜ now (store .exit) ≡ putFound kind errors value (now (store .entry)) ⌝ }
+    {
+        if store.len() < Record::SIZE {
+            return;
+        }
+        put_u8(store, 17, kind);
+        put_u8(store, 18, errors);
+        put_u64(store, 24, value);
+    }
+
     // A table that is shorter than a record, with 0 for each byte that is absent.
     fn padded(table: &[u8]) -> [u8; Self::SIZE]
         requires { ⌜ length (now table) ≤ recordSize ⌝ }
@@ -173,21 +181,21 @@ impl Record {
         requires { ⌜ recordSize ≤ length (now table) ⌝ }
         ensures { λ r. ⌜ r ≡ entryAt (now (table .entry)) ⌝ }
     {
-        let flags_length = word::be_u32(table, 4);
-        let pads = word::be_u32(table, 20);
+        let flags_length = word(table, 4);
+        let pads = word(table, 20);
         Record {
-            code: word::be_u32(table, 0),
+            code: word(table, 0),
             flags: (flags_length / 0x100_0000) as u8,
             length: flags_length % 0x100_0000,
-            vendor: word::be_u32(table, 8),
-            place: word::be_u32(table, 12),
+            vendor: word(table, 8),
+            place: word(table, 12),
             depth: table[16],
             kind: table[17],
             errors: 0,
             padding: table[19],
             pads: pads / 0x100,
             value: 0,
-            parent: word::be_u32(table, 32),
+            parent: word(table, 32),
         }
     }
 

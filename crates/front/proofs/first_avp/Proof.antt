@@ -12,20 +12,20 @@ use Rattle.front.proofs.Refusals.{not-complete, broken, whole}
 use Rattle.front.proofs.first_avp.Statement.{statement}
 use Rattle.front.proofs.first_avp.Tie as tie
 
-abbrev input : tie.After-be-u32 → List ℕ
+abbrev input : tie.After-word → List ℕ
 input c = now (c .before .before .before .args .s)
 
-input-bytes : (c : tie.After-be-u32) → Bytes (input c)
+input-bytes : (c : tie.After-word) → Bytes (input c)
 input-bytes c i = omega (arith, c .before .before .shared-slice-known .given i)
 
 -- ---- what was read is what the AVP states
 
-sizes-read : (c : tie.After-header-size-of) → Stated (input (c .before)) (c .before .be-u32 .result % 0x1000000) (c .header-size-of .result)
-sizes-read c = stated-word _ _ _ (input-bytes (c .before)) (c .before .be-u32 .ensures) (c .header-size-of .ensures)
+sizes-read : (c : tie.After-header-size-of) → Stated (input (c .before)) (c .before .word .result % 0x1000000) (c .header-size-of .result)
+sizes-read c = stated-word _ _ _ (input-bytes (c .before)) (c .before .word .ensures) (c .header-size-of .ensures)
 
 padding-found : (c : tie.After-padding)
     → let read = c .before .before .before in
-    Padded (input read) (read .be-u32 .result % 0x1000000) (c .padding .result)
+    Padded (input read) (read .word .result % 0x1000000) (c .padding .result)
 padding-found c = padded _ _ _ _ (sizes-read (c .before .before)) (c .padding .ensures)
 
 -- past the three tests
@@ -42,7 +42,7 @@ returns-4 c =
     let st = sizes-read (there .before .before .before) in
     let p = padding-found (there .before) in
     whole _ (complete-there there) _
-    (fields-are _ _ (c .before .be-u322 .ensures) (flags-of-word _ _ (input-bytes read) (read .be-u32 .ensures)) (st .length-is) (c .vendor-id .ensures) (p .size-is))
+    (fields-are _ _ (c .before .word2 .ensures) (flags-of-word _ _ (input-bytes read) (read .word .ensures)) (st .length-is) (c .vendor-id .ensures) (p .size-is))
 
 pub first-avp-spec : {M : Type 1} → statement M
 first-avp-spec =

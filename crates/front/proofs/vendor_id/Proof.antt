@@ -19,5 +19,5 @@ vendor-id-spec =
     (λ c. omega (arith, head (flags (now (c .before .before .args .s)))))
     (λ c κs. search needs)
     (λ c κs. omega (arith, vendor-there c))
-    (λ c. c .be-u32 .ensures ∙ sym (vendor-there (c .before) .vendor-is))
+    (λ c. c .word .ensures ∙ sym (vendor-there (c .before) .vendor-is))
     (λ c. sym (without-vendor _ (sym (c .before .vendor-specific-flag .ensures) ∙ c .if1 .left))))

@@ -19,8 +19,8 @@ returns c =
     let flags = pads .before in
     let table = now (flags .before .before .args .table) in
     let are = fields-are table (λ i. omega (arith, known .shared-slice-known4 .given i)) _ in
-    let first = are (code .be-u323 .ensures) (ap (λ (w : ℕ). w / 0x1000000) (flags .be-u32 .ensures)) (ap (λ (w : ℕ). w % 0x1000000) (flags .be-u32 .ensures)) in
-    first (vendor .be-u324 .ensures) (place .be-u325 .ensures) refl refl refl refl (ap (λ (w : ℕ). w / 256) (pads .be-u322 .ensures)) refl (c .be-u326 .ensures)
+    let first = are (code .word3 .ensures) (ap (λ (w : ℕ). w / 0x1000000) (flags .word .ensures)) (ap (λ (w : ℕ). w % 0x1000000) (flags .word .ensures)) in
+    first (vendor .word4 .ensures) (place .word5 .ensures) refl refl refl refl (ap (λ (w : ℕ). w / 256) (pads .word2 .ensures)) refl (c .word6 .ensures)
 
 pub fields-spec : {M : Type 1} → statement M
 fields-spec =

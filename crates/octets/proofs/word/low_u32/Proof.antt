@@ -1,9 +1,9 @@
 -- `low_u32` meets its contract: it is `be` of its bytes, the last first, and each byte is below 256.
 use borrow.Author.Needs.{needs}
 use native.Mathlib.Omega.{arith}
 use Rattle.octets.specs.Octets.{be}
-use Rattle.front.proofs.word.low_u32.Statement.{statement}
-use Rattle.front.proofs.word.low_u32.Tie as tie
+use Rattle.octets.proofs.word.low_u32.Statement.{statement}
+use Rattle.octets.proofs.word.low_u32.Tie as tie
 
 returns : tie.Need-returns
 unfolding be
