@@ -232,11 +232,11 @@ fn entry(kinds: &[u8], code: u32) -> u8
 pub fn kind(d: Dictionary, kinds: &[u8], code: u32, vendor: u32) -> u8
     ensures { λ r. ⌜ r ≡ dictionaryBy d (now (kinds .entry)) .kind code vendor ⌝ }
 {
+    if vendor == 0 {
+        return entry(kinds, code);
+    }
     if !d.vendors {
         return entry(kinds, code);
     }
-    if vendor != 0 {
-        return UNHANDLED;
-    }
-    entry(kinds, code)
+    UNHANDLED
 }

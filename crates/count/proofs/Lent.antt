@@ -1,13 +1,14 @@
--- The parts of a run that are lent: an AVP's own bytes, which are the first item of what is left of the run and so exact, and its
--- payload, from the end of its header to its length.
-use Prim.Native.Nat.{ℕ, _+_, _-_, _≤_}
+-- The parts of a run that are lent: an AVP's own bytes, which are the first item of what is left of the run and so exact; its payload,
+-- from the end of its header to its length; and what is left after it, from its size on.
+use Prim.Native.Nat.{ℕ, _+_, _-_, _≤_, _<_}
 use mathlib.Core.Path.{_≡_, ap, _∙_}
-use mathlib.Core.Bool.{Bool}
+use mathlib.Core.Bool.{Bool, true}
 use mathlib.Core.List.{List}
 use native.Mathlib.Omega.{arith}
-use lib.ListN.{length, take, drop}
-use Rattle.octets.specs.Run.{item, tree}
-use Rattle.rfc6733.specs.Avp.{flags, headSize, dataSize, payload, Exact}
+use lib.ListN.{length, take, drop, length-drop}
+use Rattle.octets.specs.Run.{item, after, tree}
+use Rattle.octets.proofs.Lists.{rest}
+use Rattle.rfc6733.specs.Avp.{flags, headSize, dataSize, payload, complete, Exact}
 use Rattle.rfc6733.specs.Dictionary.{Dictionary}
 use Rattle.rfc6733.specs.Records.{avps}
 use Rattle.rfc6733.proofs.Complete.{Whole, sizes, complete-whole}
@@ -54,14 +55,29 @@ pub record Inside (s : List ℕ) (from to : ℕ) : Type 0 where
   pub within : to ≤ length s
   pub is : lent s from to ≡ payload s
 
-pub inside : (s : List ℕ) (a : AVP) (from : ℕ) → Exact s → Here s a → from ≡ headSize (a .flags) → Inside s from (a .length)
+pub inside : (s : List ℕ) (a : AVP) (from : ℕ) → complete s ≡ true → Here s a → from ≡ headSize (a .flags) → Inside s from (a .length)
 unfolding payload dataSize
 inside s a from e h f =
-    let w = complete-whole s (e .whole) in
+    let w = complete-whole s e in
     let z = sizes s in
     let b : from ≡ headSize (flags s) = f ∙ ap headSize (h .flags-is) in
     record {
       ordered = omega arith;
       within = omega arith;
       is = rw (b, h .length-is);
+    }
+
+-- ---- what is left after it
+
+pub record Left (D : Dictionary) (s r : List ℕ) : Type 0 where
+  pub is : r ≡ after (avps D) s
+  pub shorter : length r < length s
+
+pub left-after : (D : Dictionary) {s : List ℕ} {a : AVP} → Turn s 0 a → Left D s (lent s (a .size) (length s))
+unfolding after
+left-after D {s} {a} t =
+    let e = rest s (a .size) (omega arith) in
+    record {
+      is = e ∙ ap (λ (n : ℕ). drop n s) (t .fields .size-is);
+      shorter = rw e (omega (arith, length-drop (a .size) s));
     }

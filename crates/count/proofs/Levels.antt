@@ -1,19 +1,23 @@
--- Laws of `levelOf`: the answer from the facts and the facts from an answer, what a loop over a run has counted so far, and the
--- count of one AVP from that of its payload. The counts fit, since no more headers are tried than there are bytes.
+-- Laws of `levelOf`: the answer from the facts and the facts from an answer, and what a loop over a run has counted so far: a leaf is a
+-- record and a header, and a group has its members besides. The counts fit, since no more headers are tried than there are bytes.
 use Prim.Native.Nat.{ℕ, _+_, _-_, _≤_, _<_, max}
-use mathlib.Core.Path.{_≡_, refl, sym, _∙_}
+use mathlib.Core.Path.{_≡_, refl, sym, ap, ap₂, _∙_}
 use mathlib.Core.Bool.{Bool, true, false, cond}
+use mathlib.Core.Logic.{inl, inr}
 use mathlib.Core.List.{List}
 use native.Mathlib.Omega.{arith}
 use lib.ListN.{length}
-use lib.Dec.{ltb}
-use borrow.Author.Tests.{ltb-true, ltb-false, lt-ltb, le-ltb, eq-eqb, ne-eqb}
-use Rattle.octets.specs.Run.{Tree, done, group, tree, tiles, tried, deepest}
-use Rattle.rfc6733.specs.Avp.{payload, Exact}
+use lib.Dec.{ltb, eqb}
+use borrow.Author.Tests.{ltb-true, ltb-false, lt-ltb, le-ltb, eqb-true, eqb-false, eq-eqb, ne-eqb}
+use Rattle.octets.specs.Run.{item, after, Tree, plain, group, tree, tiles, tried, deepest}
+use Rattle.octets.proofs.Runs.{tree-plain, tree-group}
+use Rattle.refusal.proofs.Tests.{decide}
+use Rattle.rfc6733.specs.Avp.{payload, complete}
 use Rattle.record.specs.Kinds.{grouped}
 use Rattle.rfc6733.specs.Dictionary.{Dictionary}
 use Rattle.rfc6733.specs.Records.{avpKind, avps, recordCount}
-use Rattle.rfc6733.proofs.Alone.{Joined, exact-tree, alone-plain, alone-group}
+use Rattle.rfc6733.proofs.Complete.{complete-whole}
+use Rattle.rfc6733.proofs.Items.{Same, item-same, sound}
 use Rattle.rfc6733.proofs.RunRecords.{count-tried}
 use Rattle.rfc6733.proofs.Tried.{tried-length}
 use Rattle.count.specs.declared.Level.the-variants.{TooDeep, Within}
@@ -76,12 +80,26 @@ none-passed left t =
     }
 
 module _ {left : ℕ} {t r : Tree} {n k : ℕ} (p : Passed left t r n k) where
-  -- one AVP more, a, where r is it with q after it
-  pub one-passed : {D : Dictionary} {size : ℕ} {a q : Tree} {b : Bool} {m j : ℕ} → Joined D size r a q → Known left a b m j
-      → Passed left t q (n + m) (k + j)
-  one-passed jn kn =
+  -- a leaf more: a record and a header
+  pub leaf-passed : {a : List ℕ} {q : Tree} → r ≡ plain a q → 0 < left → Passed left t q (n + 1) (k + 1)
+  leaf-passed {a} {q} e some =
+      let p : Passed left t (plain a q) n k = rw e at p in
       record {
-        tiles-is = p .tiles-is ∙ jn .tiles-is;
+        tiles-is = p .tiles-is;
+        records-is = omega arith;
+        tried-is = omega arith;
+        no-deeper = omega arith;
+        shallow = omega arith;
+      }
+
+  -- a group more: the records of its members are counted where it tiles, and the headers tried in it in any case
+  pub group-passed : {a : List ℕ} {i q : Tree} {b : Bool} {m j : ℕ} → r ≡ group a i q → 0 < left → Known (left - 1) i b m j
+      → Passed left t q (n + 1 + cond b m 0) (k + 1 + j)
+  group-passed {a} {i} {q} {b} {m} {j} e some w =
+      let p : Passed left t (group a i q) n k = rw e at p in
+      let members : cond b m 0 ≡ cond (tiles i) (recordCount i) 0 = rw (w .tiles-is, w .records-is) in
+      record {
+        tiles-is = p .tiles-is;
         records-is = omega arith;
         tried-is = omega arith;
         no-deeper = omega arith;
@@ -92,6 +110,10 @@ module _ {left : ℕ} {t r : Tree} {n k : ℕ} (p : Passed left t r n k) where
   pub then-deep : left < deepest r → TooDeep ≡ levelOf left t
   then-deep h = deep left t (omega arith)
 
+  -- or inside the group that is there
+  pub group-deep : {a : List ℕ} {i q : Tree} → r ≡ group a i q → left - 1 < deepest i → TooDeep ≡ levelOf left t
+  group-deep {a} {i} {q} e h = then-deep (omega (arith, ap deepest e))
+
   -- what is left is x, nothing or a broken header
   pub then-ends : (x : Tree) {m j : ℕ} → r ≡ x → deepest x ≤ left → m ≡ n + recordCount x → j ≡ k + tried x
       → Within (tiles x) m j ≡ levelOf left t
@@ -99,25 +121,35 @@ module _ {left : ℕ} {t r : Tree} {n k : ℕ} (p : Passed left t r n k) where
       let q = rw e at p in
       counts (record { shallow = omega arith; tiles-is = sym (q .tiles-is); records-is = omega arith; tried-is = omega arith })
 
--- ---- one AVP
+-- ---- the AVP at the front of what is left
 
-module _ (D : Dictionary) (a : List ℕ) (e : Exact a) (left : ℕ) (some : 0 < left) where
-  pub one-plain : (avpKind D a ≡ grouped → ⊥) → Within true 1 1 ≡ levelOf left (tree (avps D) a)
-  one-plain p =
-      rw (exact-tree D a e, alone-plain D a (ne-eqb (avpKind D a) grouped p))
-      (counts (record { shallow = omega arith; tiles-is = refl; records-is = refl; tried-is = refl }))
+module _ (D : Dictionary) (s : List ℕ) (here : complete s ≡ true) where
+  -- its own bytes, and the run after it
+  abbrev own : List ℕ
+  own = item (avps D) s
 
-  module _ (g : avpKind D a ≡ grouped) where
-    pub one-deep : left - 1 < deepest (tree (avps D) (payload a)) → TooDeep ≡ levelOf left (tree (avps D) a)
-    one-deep h =
-        rw (exact-tree D a e, alone-group D a (eq-eqb (avpKind D a) grouped g))
-        (deep left (group a (tree (avps D) (payload a)) done) (omega arith))
+  abbrev next : Tree
+  next = tree (avps D) (after (avps D) s)
 
-    -- the records of its members are counted where it tiles
-    pub one-group : {b : Bool} {n k : ℕ} (m : ℕ) → Known (left - 1) (tree (avps D) (payload a)) b n k → m ≡ cond b n 0
-        → Within true (1 + m) (1 + k) ≡ levelOf left (tree (avps D) a)
-    one-group {b} {n} {k} m w h =
-        let i = tree (avps D) (payload a) in
-        let z : m ≡ cond (tiles i) (recordCount i) 0 = h ∙ rw (← w .tiles-is, ← w .records-is) in
-        rw (exact-tree D a e, alone-group D a (eq-eqb (avpKind D a) grouped g))
-        (counts (record { shallow = omega arith; tiles-is = refl; records-is = omega arith; tried-is = omega arith }))
+  same : Same own s
+  same = item-same (avps D .nested) s (complete-whole s here)
+
+  kind-same : avpKind D own ≡ avpKind D s
+  unfolding avpKind
+  kind-same = ap₂ (D .kind) (same .code-is) (same .vendor-is)
+
+  pub leaf-first : (avpKind D s ≡ grouped → ⊥) → tree (avps D) s ≡ plain own next
+  leaf-first other =
+      tree-plain (avps D) (sound (avps D .nested)) s here (ne-eqb (avpKind D own) grouped (λ e. other (sym kind-same ∙ e)))
+
+  pub group-first : avpKind D s ≡ grouped → tree (avps D) s ≡ group own (tree (avps D) (payload s)) next
+  group-first g =
+      rw (← same .payload-is)
+      (tree-group (avps D) (sound (avps D .nested)) s here (eq-eqb (avpKind D own) grouped (kind-same ∙ g)))
+
+  pub some-recorded : 1 ≤ recordCount (tree (avps D) s)
+  some-recorded =
+      elim (decide (eqb (avpKind D s) grouped)) [
+        | inl g ↦ rw (group-first (eqb-true (avpKind D s) grouped g)) (omega arith)
+        | inr g ↦ rw (leaf-first (eqb-false (avpKind D s) grouped g)) (omega arith)
+      ]

@@ -6,10 +6,10 @@ use front::First;
 use record::kinds::GROUPED;
 use refusal::Refusal;
 ghost use mathlib.Core.Path.{_≡_};
-ghost use Prim.Native.Nat.{_<_};
+ghost use mathlib.Core.Bool.{true};
 ghost use Rattle.octets.specs.Run.{tree};
 ghost use Rattle.rfc6733.specs.Records.{avps};
-ghost use Rattle.rfc6733.specs.Avp.{Exact};
+ghost use Rattle.rfc6733.specs.Avp.{payload, complete};
 ghost use Rattle.rfc6733.specs.Decoder.{allowed};
 ghost use Rattle.front.specs.Front.{avpOf};
 ghost use Rattle.attribute.specs.ByTable.{dictionaryBy};
@@ -72,30 +72,37 @@ fn count_level(d: Dictionary, kinds: &[u8], s: &[u8], left: usize) -> Level
 {
     let mut records: usize = 0;
     let mut tried: usize = 0;
-    let mut at: usize = 0;
-    while at < s.len() {
+    let mut rest = s;
+    while 0 < rest.len() {
         if left == 0 {
             return Level::TooDeep;
         }
-        let First::Whole(a) = front::first_avp(&s[at..]) else {
+        tried += 1;
+        let First::Whole(a) = front::first_avp(rest) else {
             return Level::Within {
                 tiles: false,
                 records,
-                tried: tried + 1,
+                tried,
             };
         };
-        let next = at + a.size;
-        let Level::Within {
-            tiles: _,
-            records: r,
-            tried: t,
-        } = count_avp(d, kinds, &s[at..next], a, left)
-        else {
-            return Level::TooDeep;
-        };
-        records += r;
-        tried += t;
-        at = next;
+        records += 1;
+        if attribute::kind(d, kinds, a.code, a.vendor_id) == GROUPED {
+            let Level::Within {
+                tiles,
+                records: r,
+                tried: t,
+            } = count_group(d, kinds, rest, a, left - 1)
+            else {
+                return Level::TooDeep;
+            };
+            // A group that does not tile has a record, and none for its members.
+            if tiles {
+                records += r;
+            }
+            tried += t;
+        }
+        let size = a.size;
+        rest = &rest[size..];
     }
     Level::Within {
         tiles: true,
@@ -104,33 +111,12 @@ fn count_level(d: Dictionary, kinds: &[u8], s: &[u8], left: usize) -> Level
     }
 }
 
-// Counts the AVP `a`, whose own bytes are `s`, with what is inside it.
-fn count_avp(d: Dictionary, kinds: &[u8], s: &[u8], a: AVP, left: usize) -> Level
-    requires { ⌜ (a ≡ avpOf (now s)) × Exact (now s) × (0 < left) ⌝ }
-    ensures { λ r. ⌜ r ≡ levelOf left (tree (avps (dictionaryBy d (now (kinds .entry)))) (now (s .entry))) ⌝ }
+// Counts the members of the group `a`, which is at the front of `s`.
+fn count_group(d: Dictionary, kinds: &[u8], s: &[u8], a: AVP, left: usize) -> Level
+    requires { ⌜ (a ≡ avpOf (now s)) × (complete (now s) ≡ true) ⌝ }
+    ensures { λ r. ⌜ r ≡ levelOf left (tree (avps (dictionaryBy d (now (kinds .entry)))) (payload (now (s .entry)))) ⌝ }
 {
-    if attribute::kind(d, kinds, a.code, a.vendor_id) != GROUPED {
-        return Level::Within {
-            tiles: true,
-            records: 1,
-            tried: 1,
-        };
-    }
     let from = a.header_size();
     let to = a.length;
-    let Level::Within {
-        tiles,
-        records,
-        tried,
-    } = count_level(d, kinds, &s[from..to], left - 1)
-    else {
-        return Level::TooDeep;
-    };
-    // A group that does not tile has a record, and none for its members.
-    let members = if tiles { records } else { 0 };
-    Level::Within {
-        tiles: true,
-        records: 1 + members,
-        tried: 1 + tried,
-    }
+    count_level(d, kinds, &s[from..to], left)
 }
