@@ -2,13 +2,15 @@
 -- the data tile, and the value's flags are its members'. Elsewhere the value is what `Value::new` reads, and there are no members.
 use Prim.Native.Nat.{ℕ, _+_}
 use mathlib.Core.Path.{_≡_, refl, sym, ap, _∙_}
-use mathlib.Core.Bool.{Bool, true, false}
+use mathlib.Core.Bool.{Bool, true, false, _||_}
+use mathlib.Core.Logic.{inl, inr}
 use mathlib.Core.List.{List}
 use native.Mathlib.Omega.{arith}
 use lib.Dec.{eqb}
 use borrow.Author.Tests.{eqb-false}
 use Rattle.octets.specs.Run.{done, tree, tiles}
 use Rattle.octets.proofs.Lists.{over-none}
+use Rattle.refusal.proofs.Tests.{decide}
 use Rattle.record.specs.Value as values
 use Rattle.record.specs.Value.{value}
 use Rattle.record.specs.Kinds.{grouped}
@@ -18,9 +20,9 @@ use Rattle.rfc6733.specs.Entered.{valueIn, entered}
 use Rattle.rfc6733.proofs.Tiling.{tiles-any}
 use Rattle.rfc6733.proofs.KindsRead.{Kind}
 use Rattle.value.specs.declared.Read.{Read}
-use Rattle.value.specs.Values.{kindOf, numberOf, readAs, Shows, newValue}
+use Rattle.value.specs.Values.{kindOf, numberOf, readAs, Shows, valueIf, newValue}
 use Rattle.avps.specs.declared.fill.Ran.{Ran}
-use Rattle.avps.specs.Fill.{groupBefore, Recorded, Members}
+use Rattle.avps.specs.Fill.{groupBefore, Tiled, Recorded, Members}
 use Rattle.avps.proofs.OtherKinds.{Other, other-read}
 
 -- the data s are a group that tiles, and are entered
@@ -34,6 +36,14 @@ record NoGroup (D : Dictionary) (code vendor : ℕ) (s : List ℕ) : Type 0 wher
   entered-is : entered D code vendor s ≡ done
   value-is : valueIn D code vendor s ≡ newValue (D .asAddress) (D .kind code vendor) s
 
+-- what is known of a group changes nothing
+pub known-value : (D : Dictionary) (code vendor : ℕ) (s : List ℕ) (whole : Bool) → Tiled whole D code vendor s
+    → valueIf (whole || tiling s) (D .asAddress) (D .kind code vendor) s ≡ newValue (D .asAddress) (D .kind code vendor) s
+unfolding valueIf newValue
+known-value D code vendor s false tiled = refl
+known-value D code vendor s true tiled =
+    elim (decide (eqb (D .kind code vendor) grouped)) [ inl e ↦ rw (e, tiled refl e) | inr e ↦ rw e ]
+
 -- the kind of a value that is shown
 shown-kind : {v : values.Value} {s : List ℕ} {r : Read} → Shows v s r → v .kind ≡ kindOf (r .value)
 unfolding readAs
@@ -41,7 +51,7 @@ shown-kind shown = ap (λ (v : values.Value). v .kind) (sym (shown .value))
 
 module _ {D : Dictionary} {code vendor : ℕ} {s : List ℕ} {r : Read} (shown : Shows (newValue (D .asAddress) (D .kind code vendor) s) s r) where
   pub a-group : Kind Other (D .asAddress s) → kindOf (r .value) ≡ grouped → Group D code vendor s
-  unfolding newValue valueIn entered groupValue
+  unfolding newValue valueIf valueIn entered groupValue
   a-group h kind = by (eqb (D .kind code vendor) grouped) (tiling s) refl refl
     where
       by : (g t : Bool) → eqb (D .kind code vendor) grouped ≡ g → tiling s ≡ t → Group D code vendor s
@@ -50,7 +60,7 @@ module _ {D : Dictionary} {code vendor : ℕ} {s : List ℕ} {r : Read} (shown :
       by false t e u = absurd (eqb-false _ _ (other-read (D .kind code vendor) e s (D .asAddress) h .holds) (rw e at (shown-kind shown ∙ kind)))
 
   no-group : (kindOf (r .value) ≡ grouped → ⊥) → NoGroup D code vendor s
-  unfolding newValue valueIn entered groupValue
+  unfolding newValue valueIf valueIn entered groupValue
   no-group other = by (eqb (D .kind code vendor) grouped) (tiling s) refl refl
     where
       by : (g t : Bool) → eqb (D .kind code vendor) grouped ≡ g → tiling s ≡ t → NoGroup D code vendor s

@@ -3,7 +3,8 @@
 -- index of the next record is never past its place.
 use Prim.Native.Nat.{ℕ, _+_, _-_, _*_, _≤_, _<_}
 use mathlib.Core.Path.{_≡_, refl, sym, ap, _∙_}
-use mathlib.Core.Bool.{true, false}
+use mathlib.Core.Bool.{Bool, true, false}
+use mathlib.Core.Logic.{inl, inr}
 use mathlib.Core.List.{List, [], _++_, append-assoc, append-nil}
 use native.Mathlib.Nat.{add-zero}
 use native.Mathlib.Omega.{arith}
@@ -22,6 +23,8 @@ use Rattle.rfc6733.specs.Groups.{memberRecords}
 use Rattle.flags.proofs.Joins.{join-assoc, zero-join, join-zero}
 use Rattle.rfc6733.proofs.Items.{sound}
 use Rattle.record.proofs.Layouts.{laid-length, laid-append}
+use Rattle.refusal.proofs.Tests.{decide}
+use Rattle.rfc6733.proofs.AllTile.{AllTile, both-tile}
 use Rattle.rfc6733.proofs.RunRecords.{count-tried}
 use Rattle.rfc6733.proofs.Tried.{tried-length}
 use Rattle.rfc6733.proofs.Groups.{member-count, member-joined}
@@ -43,6 +46,7 @@ pub record Filling (D : Dictionary) (t r : Tree) (place q depth parent first n e
   pub errors-are : errors D t ≡ join e (errors D r)
   pub no-deeper : deepest r ≤ deepest t
   pub index-fits : first + n ≤ q
+  pub all-tile : AllTile t → AllTile r
 
 pub nothing-filled : {D : Dictionary} {t : Tree} {place depth parent first : ℕ} {store : List ℕ} → first ≤ place
     → Filling D t t place (place + 0) depth parent first 0 0 store store
@@ -58,15 +62,19 @@ nothing-filled {D} {t} {place} {first = first} {store} fits =
       errors-are = sym (zero-join (errors D t));
       no-deeper = omega arith;
       index-fits = omega arith;
+      all-tile = λ all. all;
     }
 
 module _ {D : Dictionary} {t : Tree} {place q depth parent first n e : ℕ} {before now : List ℕ} (s : List ℕ) (at : ℕ)
     (f : Filling D t (tree (avps D) (drop at s)) place q depth parent first n e before now) where
   -- where a byte is left of a run that tiles there is a complete AVP
-  pub never-stuck : tiles t ≡ true → at < length s → complete (drop at s) ≡ false → ⊥
-  never-stuck whole some none =
-      let broken = tree-broken (avps D) (sound (avps D .nested)) (drop at s) (omega (arith, length-drop at s)) none in
-      false-true (sym (ap tiles broken) ∙ sym (f .tiles-is) ∙ whole)
+  pub never-stuck : tiles t ≡ true → at < length s → complete (drop at s) ≡ true
+  never-stuck whole some = elim (decide (complete (drop at s))) [ inl here ↦ here | inr none ↦ absurd (stuck none) ]
+    where
+      stuck : complete (drop at s) ≡ false → ⊥
+      stuck none =
+          let broken = tree-broken (avps D) (sound (avps D .nested)) (drop at s) (omega (arith, length-drop at s)) none in
+          false-true (sym (ap tiles broken) ∙ sym (f .tiles-is) ∙ whole)
 
   -- where none is left all is written
   pub all-filled : length s ≤ at → Recorded D t place depth parent first (record { records = n; errors = e }) before now
@@ -91,13 +99,13 @@ records-length D place depth parent first t =
 count-length : (D : Dictionary) (s : List ℕ) → recordCount (tree (avps D) s) ≤ length s
 count-length D s = omega (arith, count-tried (tree (avps D) s), tried-length D s)
 
-module _ {D : Dictionary} {s : List ℕ} {place left depth parent first : ℕ} {before : List ℕ}
-    (fits : Room (tree (avps D) s) place (length s) first left (length before)) {at n e : ℕ} {now : List ℕ}
+module _ {D : Dictionary} {s : List ℕ} {whole : Bool} {place left depth parent first : ℕ} {before : List ℕ}
+    (fits : Room whole (tree (avps D) s) place (length s) first left (length before)) {at n e : ℕ} {now : List ℕ}
     (f : Filling D (tree (avps D) s) (tree (avps D) (drop at s)) place (place + at) depth parent first n e before now) {a : AVP} {own : List ℕ}
     (o : Own D s at a own) where
   -- there is room for its records in what is left of the store
   pub room-for-one : {index : ℕ} → index ≤ place + at → at + a .size ≤ length s
-      → Room (tree (avps D) own) (place + at) (length own) index left (length (take (length now - n * recordSize) (drop (n * recordSize) now)))
+      → Room whole (tree (avps D) own) (place + at) (length own) index left (length (take (length now - n * recordSize) (drop (n * recordSize) now)))
   room-for-one early inside =
       let j = o .split in
       let left = ap length (rest now (n * recordSize) (omega arith)) ∙ length-drop (n * recordSize) now in
@@ -107,6 +115,7 @@ module _ {D : Dictionary} {s : List ℕ} {place left depth parent first : ℕ} {
         indices-fit = early;
         depths-fit = omega arith;
         levels-fit = omega arith;
+        all-tile = λ sure. both-tile j (f .all-tile (fits .all-tile sure)) .0;
       }
 
   -- they are written there, and it came back
@@ -138,4 +147,5 @@ module _ {D : Dictionary} {s : List ℕ} {place left depth parent first : ℕ} {
         errors-are = rw (f .errors-are, j .errors-are, one .errors-are, join-assoc);
         no-deeper = omega arith;
         index-fits = omega (arith, f .index-fits, one .count-is, o .length-is, count-length D own);
+        all-tile = λ all. both-tile j (f .all-tile all) .1;
       }

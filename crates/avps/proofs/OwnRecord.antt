@@ -1,19 +1,20 @@
--- One AVP from its own bytes: its data and its padding are the parts that the code lends, so the record that is put before its
--- members' is the definition's, and the two together are the records of the AVP. Its record stands right before its first member's,
--- so it is the group that they take for their own.
+-- One AVP from its own bytes: its data are the part that the code lends. Its record is put before its members' and before its value is
+-- known, which is put into it after them, so it is the definition's, and the two together are the records of the AVP. It stands right
+-- before its first member's, so it is the group that they take for their own.
 use Prim.Native.Nat.{ℕ, _+_, _-_, _≤_, _<_}
 use mathlib.Core.Path.{_≡_, sym, ap, ap₂, _∙_}
-use mathlib.Core.Bool.{not}
+use mathlib.Core.Bool.{Bool, true, not}
 use mathlib.Core.List.{List, _∷_, _++_}
 use native.Mathlib.Omega.{arith}
 use lib.ListN.{length, take, drop, length-append, length-drop}
-use lib.Seq.{length-take-le}
+use lib.Seq.{take-at, drop-at, length-take-le}
 use lib.Dec.{eqb}
 use borrow.Author.Tests.{ne-eqb}
 use borrow.Rule.Slice.PartMut.{putMid}
-use Rattle.octets.specs.Octets.{be, over}
+use Rattle.octets.specs.Octets.{Bytes, over}
 use Rattle.octets.specs.Run.{tree}
-use Rattle.octets.proofs.Lists.{rest, over-before, lent}
+use Rattle.octets.proofs.Numbers.{be-small}
+use Rattle.octets.proofs.Lists.{rest, over-behind, lent}
 use Rattle.flags.specs.Flags.{flag, join, nonZeroReserved, nonZeroPadding}
 use Rattle.rfc6733.specs.Avp as avp
 use Rattle.rfc6733.specs.Avp.{headSize, avpReserved, payload, padding, dataSize, Exact}
@@ -27,22 +28,20 @@ use Rattle.rfc6733.specs.Entered.{valueIn, entered}
 use Rattle.rfc6733.proofs.Complete.{head, sizes, complete-whole}
 use Rattle.rfc6733.proofs.Items.{payload-length}
 use Rattle.record.proofs.Layouts.{record-length}
-use Rattle.record.proofs.Room.{put-with-room}
+use Rattle.record.proofs.Found.{withFound, found-in, put-on-part}
+use Rattle.rfc6733.proofs.AllTile.{Inside, inside-tiles}
 use Rattle.rfc6733.proofs.Alone.{exact-tree, Made, made}
 use Rattle.rfc6733.proofs.Groups.{member-made}
 use Rattle.avp.specs.declared.AVP.{AVP}
 use Rattle.front.specs.Front.{avpOf}
 use Rattle.front.proofs.Fronts.{Here, here}
-use Rattle.record.specs.Store.{put}
+use Rattle.record.specs.Store.{put, putFound}
 use Rattle.avps.specs.declared.fill.Valued.{Valued}
-use Rattle.avps.specs.Fill.{groupBefore, Room, Recorded, Members}
+use Rattle.avps.specs.Fill.{groupBefore, Room, Tiled, Placed, ownRecord, Recorded, Members}
 
--- the data as `&s[from..to]` lends them, and the padding as `&s[to..]` does
+-- the data as `&s[from..to]` lends them
 abbrev pub lentData : List ℕ → AVP → ℕ → List ℕ
 lentData s a from = take (a .length - from) (drop from s)
-
-abbrev pub lentPadding : List ℕ → AVP → List ℕ
-lentPadding s a = take (length s - a .length) (drop (a .length) s)
 
 -- s is the bytes of the AVP a, whose header is as long as `from` says
 pub record Opened (s : List ℕ) (a : AVP) (from : ℕ) : Type 0 where
@@ -55,8 +54,6 @@ pub record Opened (s : List ℕ) (a : AVP) (from : ℕ) : Type 0 where
   pub few : a .size - a .length ≤ 3
   pub data-is : lentData s a from ≡ payload s
   pub data-length : length (lentData s a from) ≡ a .length - from
-  pub pads-are : lentPadding s a ≡ drop (avp.avpLength s) s
-  pub pads-length : length (lentPadding s a) ≡ a .size - a .length
 
 pub opened : {s : List ℕ} {a : AVP} {from : ℕ} → a ≡ avpOf s → Exact s → from ≡ headSize (a .flags) → Opened s a from
 unfolding payload
@@ -68,7 +65,6 @@ opened {s} {a} {from} is x e =
     let from-is : from ≡ headSize (avp.flags s) = e ∙ ap headSize (h .flags-is) in
     let n : a .length - from ≡ dataSize s = omega arith in
     let data-is : lentData s a from ≡ payload s = ap₂ (λ (k i : ℕ). take k (drop i s)) n from-is in
-    let left = rest s (a .length) (omega arith) in
     record {
       fields = h;
       from-is = from-is;
@@ -79,42 +75,50 @@ opened {s} {a} {from} is x e =
       few = omega arith;
       data-is = data-is;
       data-length = ap length data-is ∙ payload-length s w ∙ sym n;
-      pads-are = left ∙ ap (λ (k : ℕ). drop k s) (h .length-is);
-      pads-length = ap length left ∙ length-drop (a .length) s ∙ omega arith;
     }
 
--- ---- the record, put before the members'
+-- ---- the record, put before its value is known
 
--- as the code makes it
-abbrev pub ownRecord : AVP → ℕ → ℕ → ℕ → ℕ → ℕ → ℕ → Valued → Record
-ownRecord a from place depth parent pads errors m =
-    record {
-      code = a .code;
-      flags = a .flags;
-      length = a .length;
-      vendor = a .«vendor_id»;
-      place = place + from;
-      depth = depth;
-      kind = m .kind;
-      errors = errors;
-      padding = a .size - a .length;
-      pads = pads;
-      value = m .number;
-      parent = parent;
-    }
+-- a store whose first bytes were lent for a record, and came back
+abbrev pub standing : List ℕ → List ℕ → List ℕ
+standing first store = first ++ drop recordSize store
 
--- a record put at the front of a store whose part after it was lent, and came back with other bytes at its front
-put-before : (r : Record) (bytes store back : List ℕ) → recordSize ≤ length store
-    → back ≡ over bytes (take (length store - recordSize) (drop recordSize store))
-    → put r (putMid recordSize (length store - recordSize) store back) ≡ over (recordBytes r ++ bytes) store
-put-before r bytes store back room is =
-    let after = take recordSize store ++ over bytes (drop recordSize store) in
-    let fits : recordSize ≤ length after =
-    omega (arith, length-append (take recordSize store) (over bytes (drop recordSize store)), length-take-le recordSize store room)
-    in
-    ap (put r) (lent recordSize store back ∙ ap (λ (x : List ℕ). take recordSize store ++ x) (is ∙ ap (over bytes) (rest store recordSize room)))
-    ∙ put-with-room r after fits
-    ∙ over-before (recordBytes r) bytes store recordSize (record-length r) room
+-- and whose other bytes were lent then, and came back
+abbrev pub behind : List ℕ → List ℕ → List ℕ
+behind s back = putMid recordSize (length s - recordSize) s back
+
+pub behind-room : (s back : List ℕ) → recordSize ≤ length s → recordSize ≤ length (behind s back)
+behind-room s back room = rw (lent recordSize s back, length-append) (omega (arith, length-take-le recordSize s room))
+
+module _ (r : Record) (store first : List ℕ) (room : recordSize ≤ length store) (first-is : first ≡ put r (take recordSize store)) where
+  own-bytes : first ≡ recordBytes r
+  own-bytes = first-is ∙ put-on-part r store room
+
+  own-length : length first ≡ recordSize
+  own-length = ap length own-bytes ∙ record-length r
+
+  pub standing-length : length (standing first store) ≡ length store
+  standing-length = simp (length-append, length-drop) (omega (arith, own-length))
+
+  -- what was found is put into the record, and the bytes behind it have come back with others at their front
+  put-around : (kind errors value : ℕ) (bytes back found : List ℕ)
+      → let s = standing first store in
+      back ≡ over bytes (take (length s - recordSize) (drop recordSize s))
+      → found ≡ putFound kind errors value (take recordSize (behind s back))
+      → found ++ drop recordSize (behind s back) ≡ over (recordBytes (withFound r kind errors value) ++ bytes) store
+  put-around kind errors value bytes back found back-is found-is =
+      let s = standing first store in
+      let ahead : take recordSize s ≡ first = take-at first (drop recordSize store) recordSize own-length in
+      let after : drop recordSize s ≡ drop recordSize store = drop-at first (drop recordSize store) recordSize own-length in
+      let came-back : back ≡ over bytes (drop recordSize store) =
+      back-is ∙ ap (over bytes) (rest s recordSize (omega (arith, standing-length)) ∙ after)
+      in
+      let both : behind s back ≡ first ++ back = lent recordSize s back ∙ ap (λ (x : List ℕ). x ++ back) ahead in
+      let own-found : found ≡ recordBytes (withFound r kind errors value) =
+      rw (both, take-at first back recordSize own-length, own-bytes) at found-is ∙ found-in r kind errors value
+      in
+      rw (both, drop-at first back recordSize own-length, own-found, came-back)
+      (over-behind (recordBytes (withFound r kind errors value)) bytes store recordSize (record-length (withFound r kind errors value)))
 
 -- ---- the records of the AVP
 
@@ -127,19 +131,43 @@ module _ (D : Dictionary) {s : List ℕ} {a : AVP} {from : ℕ} (o : Opened s a 
   made-here : Made D s (tree (avps D) s) (valueIn D (a .code) (a .«vendor_id») (lentData s a from)) (entered D (a .code) (a .«vendor_id») (lentData s a from))
   made-here = rw (exact-tree D s x, o .fields .code-is, o .fields .vendor-is, o .data-is) (made D s)
 
-  pub room-for-own : {place n index left l : ℕ} → Room (tree (avps D) s) place n index left l → recordSize ≤ l
+  pub room-for-own : {w : Bool} {place n index left l : ℕ} → Room w (tree (avps D) s) place n index left l → recordSize ≤ l
   room-for-own room = omega (arith, made-here)
 
   -- its header takes a level
-  pub level-for-own : {place n index left l : ℕ} → Room (tree (avps D) s) place n index left l → 0 < left
+  pub level-for-own : {w : Bool} {place n index left l : ℕ} → Room w (tree (avps D) s) place n index left l → 0 < left
   level-for-own room = omega (arith, made-here)
 
-  pub room-for-members : {place index left : ℕ} (store : List ℕ) → Room (tree (avps D) s) place (length s) index left (length store)
-      → Room (entered D (a .code) (a .«vendor_id») (lentData s a from)) (place + from) (length (lentData s a from)) (index + 1) (left - 1)
-      (length (take (length store - recordSize) (drop recordSize store)))
-  room-for-members store room =
+  -- its fields fit those of a record
+  pub placed : {w : Bool} {place n index left l : ℕ} → Bytes s → n ≡ length s → Room w (tree (avps D) s) place n index left l → Placed a place left
+  placed bytes is room =
+      let h = head (avp.flags s) in
+      let long = be-small 3 s 5 bytes in
+      record {
+        length-fits = omega (arith, o .fields .length-is);
+        place-fits = rw (o .fields .flags-is, ← o .from-is) (omega (arith, o .from-in, o .length-in, room .places-fit));
+        level-fits = room .levels-fit;
+        padded = omega arith;
+        few = o .few;
+      }
+
+  -- where every group tiles, so do its members
+  inside : {w : Bool} {place n index left l : ℕ} → Room w (tree (avps D) s) place n index left l → w ≡ true
+      → Inside D (a .code) (a .«vendor_id») (lentData s a from)
+  inside room sure = rw (o .fields .code-is, o .fields .vendor-is, o .data-is) (inside-tiles D s (rw (exact-tree D s x) at (room .all-tile sure)))
+
+  pub members-tile : {w : Bool} {place n index left l : ℕ} → Room w (tree (avps D) s) place n index left l
+      → Tiled w D (a .code) (a .«vendor_id») (lentData s a from)
+  members-tile room sure = inside room sure .tiles-is
+
+  pub room-for-members : {w : Bool} {place index left : ℕ} (store s′ : List ℕ) → length s′ ≡ length store
+      → Room w (tree (avps D) s) place (length s) index left (length store)
+      → Room w (entered D (a .code) (a .«vendor_id») (lentData s a from)) (place + from) (length (lentData s a from)) (index + 1) (left - 1)
+      (length (take (length s′ - recordSize) (drop recordSize s′)))
+  room-for-members store s′ same room =
       let m = made-here in
-      let l = ap length (rest store recordSize (room-for-own room)) ∙ length-drop recordSize store in
+      let own = room-for-own room in
+      let l = ap length (rest s′ recordSize (omega arith)) ∙ length-drop recordSize s′ in
       let h = head (avp.flags s) in
       record {
         records-fit = omega arith;
@@ -147,54 +175,52 @@ module _ (D : Dictionary) {s : List ℕ} {a : AVP} {from : ℕ} (o : Opened s a 
         indices-fit = omega arith;
         depths-fit = omega arith;
         levels-fit = omega arith;
+        all-tile = λ sure. inside room sure .all-tile;
       }
 
-  own-errors-are : (p e : ℕ) → p ≡ be 3 (lentPadding s a) 0
+  own-errors-are : (p e : ℕ) → p ≡ avp.pads s
       → e ≡ join (flag (not (eqb (avpReserved (a .flags)) 0)) nonZeroReserved) (flag (not (eqb p 0)) nonZeroPadding) → e ≡ ownErrors s
-  unfolding ownErrors avp.pads
-  own-errors-are p e ep ee = ee ∙ rw (ep, o .pads-are, o .fields .flags-is)
+  unfolding ownErrors
+  own-errors-are p e ep ee = ee ∙ rw (ep, o .fields .flags-is)
 
-  own-record-is : (place depth parent p e : ℕ) (m : Valued) (v : Value) → p ≡ be 3 (lentPadding s a) 0 → m .kind ≡ v .kind
+  own-record-is : (place depth parent p e : ℕ) (m : Valued) (v : Value) → p ≡ avp.pads s → m .kind ≡ v .kind
       → m .number ≡ v .number → e ≡ join (ownErrors s) (v .errors)
-      → recordBytes (ownRecord a from place depth parent p e m) ≡ recordBytes (withParent parent (recordOf place depth s v))
-  unfolding recordBytes recordOf avp.pads
+      → recordBytes (withFound (ownRecord a place depth p parent) (m .kind) e (m .number)) ≡ recordBytes (withParent parent (recordOf place depth s v))
+  unfolding recordBytes recordOf
   own-record-is place depth parent p e m v ep ek en ee =
-      rw (ep, ek, en, ee, o .pads-are, o .padding-is, o .from-is, o .fields .code-is, o .fields .flags-is, o .fields .length-is, o .fields .vendor-is)
+      rw (ep, ek, en, ee, o .padding-is, o .fields .code-is, o .fields .flags-is, o .fields .length-is, o .fields .vendor-is)
 
   -- p is the padding as a number, oe the flags of the AVP's own header and padding, and e these with its value's
-  pub avp-written : {place index parent left depth : ℕ} {store back last : List ℕ} {m : Valued} {p oe e : ℕ}
-      → Room (tree (avps D) s) place (length s) index left (length store)
-      → Members D (a .code) (a .«vendor_id») (lentData s a from) (place + from) depth (index + 1) m
-      (take (length store - recordSize) (drop recordSize store)) back
-      → p ≡ be 3 (lentPadding s a) 0
+  pub avp-written : {w : Bool} {place index parent left depth : ℕ} {store first back found : List ℕ} {m : Valued} {p oe e : ℕ}
+      → Room w (tree (avps D) s) place (length s) index left (length store)
+      → p ≡ avp.pads s
       → oe ≡ join (flag (not (eqb (avpReserved (a .flags)) 0)) nonZeroReserved) (flag (not (eqb p 0)) nonZeroPadding)
+      → first ≡ put (ownRecord a place depth p parent) (take recordSize store)
+      → let standing-here = standing first store in
+      Members D (a .code) (a .«vendor_id») (lentData s a from) (place + from) depth (index + 1) m
+      (take (length standing-here - recordSize) (drop recordSize standing-here)) back
       → e ≡ join oe (m .errors)
-      → last ≡ put (ownRecord a from place depth parent p e m) (putMid recordSize (length store - recordSize) store back)
-      → Recorded D (tree (avps D) s) place depth parent index (record { records = 1 + m .records; errors = e }) store last
-  avp-written {place = place} {index} {parent} {depth = depth} {store} {back} {m} {p} {oe} {e} room v ep eo ee el =
+      → found ≡ putFound (m .kind) e (m .number) (take recordSize (behind standing-here back))
+      → Recorded D (tree (avps D) s) place depth parent index (record { records = 1 + m .records; errors = e }) store
+      (found ++ drop recordSize (behind standing-here back))
+  avp-written {place = place} {index} {parent} {depth = depth} {store} {first} {back} {found} {m} {p} {oe} {e} room ep eo ef v ee el =
       let t = made-here in
       let w = valueIn D (a .code) (a .«vendor_id») (lentData s a from) in
-      let inside = entered D (a .code) (a .«vendor_id») (lentData s a from) in
+      let inner = entered D (a .code) (a .«vendor_id») (lentData s a from) in
       let own = withParent parent (recordOf place depth s w) in
-      let members = memberRecords D (place + from) (depth + 1) index (index + 1) inside in
+      let members = memberRecords D (place + from) (depth + 1) index (index + 1) inner in
       let errors-are : e ≡ join (ownErrors s) (w .errors) = ee ∙ ap₂ join (own-errors-are p oe ep eo) (v .errors-are) in
-      let put-in = ownRecord a from place depth parent p e m in
-      let own-is : recordBytes put-in ≡ recordBytes own =
-      own-record-is place depth parent p e m w ep (v .kind-is) (v .number-is) errors-are
-      in
+      let own-is = own-record-is place depth parent p e m w ep (v .kind-is) (v .number-is) errors-are in
       let records-are : memberRecords D place depth parent index (tree (avps D) s) ≡ own ∷ members =
       member-made t place depth parent index
-      ∙ ap (λ (i : ℕ). own ∷ memberRecords D (place + i) (depth + 1) index (index + 1) inside) (sym (o .from-is))
+      ∙ ap (λ (i : ℕ). own ∷ memberRecords D (place + i) (depth + 1) index (index + 1) inner) (sym (o .from-is))
       in
-      let members-are : back ≡ over (laid members) (take (length store - recordSize) (drop recordSize store)) =
-      rw (own-group index) at (v .store-is)
-      in
+      let members-are = rw (own-group index) at (v .store-is) in
       record {
         count-is = omega (arith, t .count-is, v .count-is);
         errors-are = errors-are ∙ sym (t .errors-are);
         store-is =
-            el
-            ∙ put-before put-in (laid members) store back (room-for-own room) members-are
+            put-around (ownRecord a place depth p parent) store first (room-for-own room) ef (m .kind) e (m .number) (laid members) back found members-are el
             ∙ ap (λ (b : List ℕ). over (b ++ laid members) store) own-is
             ∙ ap (λ (rs : List Record). over (laid rs) store) (sym records-are);
       }

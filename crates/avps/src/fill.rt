@@ -1,10 +1,11 @@
 // Fills a store with the records of a run that is known to tile and to fit: the run, the AVP and the value call each other in turn.
+use super::known;
 use attribute::Dictionary;
 use avp::AVP;
 use flags::ErrorFlags;
-use front::First;
 use record::Record;
 use record::kinds::GROUPED;
+use record::kinds::UNHANDLED;
 use value::Value;
 ghost use mathlib.Core.Path.{_≡_};
 ghost use mathlib.Core.Bool.{true, not};
@@ -19,7 +20,7 @@ ghost use Rattle.rfc6733.specs.Records.{avps};
 ghost use Rattle.rfc6733.specs.Entered.{entered};
 ghost use Rattle.front.specs.Front.{avpOf};
 ghost use Rattle.attribute.specs.ByTable.{dictionaryBy};
-ghost use Rattle.avps.specs.Fill.{Room, groupBefore, RunRecorded, ValueRead};
+ghost use Rattle.avps.specs.Fill.{Room, Tiled, Placed, ownRecord, depthAt, groupBefore, RunRecorded, ValueRead};
 
 // How many records, and their error flags joined.
 pub(super) struct Ran {
@@ -45,6 +46,27 @@ fn own_errors(a: AVP, pads: u32) -> u8
     )
 }
 
+// The record of an AVP, which stands at `place`, before its value is known: with no kind, no errors and no value.
+fn own_record(a: AVP, place: usize, left: usize, pads: u32, parent: u32) -> Record
+    requires { ⌜ Placed a place left ⌝ }
+    ensures { λ r. ⌜ r ≡ ownRecord a place (depthAt left) pads parent ⌝ }
+{
+    Record {
+        code: a.code,
+        flags: a.flags,
+        length: a.length as u32,
+        vendor: a.vendor_id,
+        place: (place + a.header_size()) as u32,
+        depth: (AVP::MOST_DEPTH + 1 - left) as u8,
+        kind: UNHANDLED,
+        errors: 0,
+        padding: (a.size - a.length) as u8,
+        pads,
+        value: 0,
+        parent,
+    }
+}
+
 // The group of a run stands right before its first member. A run whose first record is the first of all has none.
 fn group_before(first: usize) -> u32
     requires { ⌜ first ≤ topLevel ⌝ }
@@ -60,6 +82,7 @@ fn group_before(first: usize) -> u32
 // its own among them.
 pub(super) fn read_run(
     d: Dictionary,
+    whole: bool,
     kinds: &[u8],
     s: &[u8],
     place: usize,
@@ -68,7 +91,7 @@ pub(super) fn read_run(
     store: &mut [u8],
 ) -> Ran
     requires { ⌜ tiles (tree (avps (dictionaryBy d (now kinds))) (now s)) ≡ true ⌝ }
-    requires { ⌜ Room (tree (avps (dictionaryBy d (now kinds))) (now s)) place (length (now s)) first left (length (now store)) ⌝ }
+    requires { ⌜ Room whole (tree (avps (dictionaryBy d (now kinds))) (now s)) place (length (now s)) first left (length (now store)) ⌝ }
     ensures { λ r. ⌜ RunRecorded (dictionaryBy d (now (kinds .entry))) (now (s .entry)) place (groupBefore first) first left r (now (store .entry)) (now (store .exit)) ⌝ }
 {
     let parent = group_before(first);
@@ -76,12 +99,11 @@ pub(super) fn read_run(
     let mut n: usize = 0;
     let mut errors: u8 = 0;
     while at < s.len() {
-        let First::Whole(a) = front::first_avp(&s[at..]) else {
-            return Ran { records: n, errors };
-        };
+        let a = known::avp(&s[at..]);
         let next = at + a.size;
         let one = read_avp(
             d,
+            whole,
             kinds,
             &s[at..next],
             a,
@@ -101,6 +123,7 @@ pub(super) fn read_run(
 // The records of the AVP `a`, whose own bytes are `s`: its own, which has an index and a parent, and its members' after it.
 fn read_avp(
     d: Dictionary,
+    whole: bool,
     kinds: &[u8],
     s: &[u8],
     a: AVP,
@@ -111,13 +134,17 @@ fn read_avp(
     store: &mut [u8],
 ) -> Ran
     requires { ⌜ (a ≡ avpOf (now s)) × Exact (now s) ⌝ }
-    requires { ⌜ Room (tree (avps (dictionaryBy d (now kinds))) (now s)) place (length (now s)) index left (length (now store)) ⌝ }
+    requires { ⌜ Room whole (tree (avps (dictionaryBy d (now kinds))) (now s)) place (length (now s)) index left (length (now store)) ⌝ }
     ensures { λ r. ⌜ RunRecorded (dictionaryBy d (now (kinds .entry))) (now (s .entry)) place parent index left r (now (store .entry)) (now (store .exit)) ⌝ }
 {
     let from = a.header_size();
     let to = a.length;
+    let pads = known::pads(s, a);
+    let own = own_errors(a, pads);
+    own_record(a, place, left, pads, parent).put(&mut store[..Record::SIZE]);
     let value = read_value(
         d,
+        whole,
         kinds,
         a.code,
         a.vendor_id,
@@ -127,22 +154,8 @@ fn read_avp(
         left,
         &mut store[Record::SIZE..],
     );
-    let pads = front::pads(&s[to..]);
-    let errors = flags::join(own_errors(a, pads), value.errors);
-    Record {
-        code: a.code,
-        flags: a.flags,
-        length: to as u32,
-        vendor: a.vendor_id,
-        place: (place + from) as u32,
-        depth: (AVP::MOST_DEPTH + 1 - left) as u8,
-        kind: value.kind,
-        errors,
-        padding: (a.size - to) as u8,
-        pads,
-        value: value.number,
-        parent,
-    }.put(store);
+    let errors = flags::join(own, value.errors);
+    Record::put_found(&mut store[..Record::SIZE], value.kind, errors, value.number);
     Ran {
         records: 1 + value.records,
         errors,
@@ -153,6 +166,7 @@ fn read_avp(
 // which has the index `first`.
 fn read_value(
     d: Dictionary,
+    whole: bool,
     kinds: &[u8],
     code: u32,
     vendor: u32,
@@ -162,15 +176,29 @@ fn read_value(
     left: usize,
     store: &mut [u8],
 ) -> Valued
-    requires { ⌜ 0 < left ⌝ }
-    requires { ⌜ Room (entered (dictionaryBy d (now kinds)) code vendor (now «data»)) place (length (now «data»)) first (left - 1) (length (now store)) ⌝ }
+    requires { ⌜ (0 < left) × Tiled whole (dictionaryBy d (now kinds)) code vendor (now «data») ⌝ }
+    requires { ⌜ Room whole (entered (dictionaryBy d (now kinds)) code vendor (now «data»)) place (length (now «data»)) first (left - 1) (length (now store)) ⌝ }
     ensures { λ r. ⌜ ValueRead d (now (kinds .entry)) code vendor (now («data» .entry)) place first left r (now (store .entry)) (now (store .exit)) ⌝ }
 {
-    let read = Value::new(d.families, attribute::kind(d, kinds, code, vendor), data);
+    let read = Value::new_known(
+        d.families,
+        whole,
+        attribute::kind(d, kinds, code, vendor),
+        data,
+    );
     let value = read.value;
     let kind = value.kind();
     if kind == GROUPED {
-        let members = read_run(d, kinds, data, place, first, left - 1, store);
+        let members = read_run(
+            d,
+            whole,
+            &kinds[..],
+            &data[..],
+            place,
+            first,
+            left - 1,
+            store,
+        );
         return Valued {
             kind,
             number: 0,

@@ -1,6 +1,7 @@
 // Reading a run of AVPs: it is counted first, and where it tiles and fits, its records are put into a lent store.
 // This crate knows no message. It writes nothing until everything is known to fit, so a refusal has changed no byte.
 mod fill;
+mod known;
 
 use attribute::Dictionary;
 use avp::AVP;
@@ -36,12 +37,19 @@ pub enum Filled {
 const LAST_PLACE: u32 = 0xffff_ffff;
 
 // Fills the store with the records of the run `s`, which stands at `place`, and with zero after them. Answers their error flags.
-fn fill_store(d: Dictionary, kinds: &[u8], s: &[u8], place: usize, store: &mut [u8]) -> u8
+fn fill_store(
+    d: Dictionary,
+    whole: bool,
+    kinds: &[u8],
+    s: &[u8],
+    place: usize,
+    store: &mut [u8],
+) -> u8
     requires { ⌜ tiles (tree (avps (dictionaryBy d (now kinds))) (now s)) ≡ true ⌝ }
-    requires { ⌜ Room (tree (avps (dictionaryBy d (now kinds))) (now s)) place (length (now s)) 0 mostDepth (length (now store)) ⌝ }
+    requires { ⌜ Room whole (tree (avps (dictionaryBy d (now kinds))) (now s)) place (length (now s)) 0 mostDepth (length (now store)) ⌝ }
     ensures { λ r. ⌜ RunCleared (dictionaryBy d (now (kinds .entry))) (now (s .entry)) place r (now (store .entry)) (now (store .exit)) ⌝ }
 {
-    let ran = fill::read_run(d, kinds, s, place, 0, AVP::MOST_DEPTH, store);
+    let ran = fill::read_run(d, whole, kinds, s, place, 0, AVP::MOST_DEPTH, store);
     let n = ran.records;
     record::clear(&mut store[n * Record::SIZE..]);
     ran.errors
@@ -68,7 +76,7 @@ pub fn parse_avps(
             if store.len() / Record::SIZE < records {
                 return Filled::Refused(Refusal::NoRecords(records));
             }
-            let errors = fill_store(d, kinds, s, place as usize, store);
+            let errors = fill_store(d, records == tried, kinds, s, place as usize, store);
             Filled::Accepted(Counts {
                 errors,
                 records,

@@ -3,6 +3,7 @@ pub mod Complete
 pub mod Items
 pub mod Tiling
 pub mod RunRecords
+pub mod AllTile
 pub mod Outlines
 pub mod CreditControl
 pub mod RunErrors

@@ -1,5 +1,5 @@
--- The contract of `Value::new` names one outcome: the outcome can be read back from what it shows, since a value is told by its kind
--- and its number, and an Address by the data besides.
+-- The contracts of `Value::new` and `new_known` name one outcome: the outcome can be read back from what it shows, since a value is told
+-- by its kind and its number, and an Address by the data besides.
 use Prim.Native.Nat.{ℕ}
 use mathlib.Core.Path.{_≡_, refl, sym, ap, _∙_}
 use mathlib.Core.List.{List, [], _∷_}

@@ -4,7 +4,6 @@ use Prim.Native.Nat.{ℕ, _<_, _≤_}
 use mathlib.Core.Path.{_≡_, refl, ap, _∙_}
 use mathlib.Core.Bool.{Bool, true, false, cond}
 use mathlib.Core.List.{List}
-use types.Run.{OneOf}
 use lib.ListN.{length}
 use lib.Dec.{ltb, eqb}
 use borrow.Author.Tests.{lt-ltb, le-ltb, eqb-false}
@@ -16,7 +15,8 @@ use Rattle.utf8.specs.declared.Utf8.the-variants.{WellFormed, ValidUpTo}
 use Rattle.utf8.proofs.Answers.{Says, says}
 use Rattle.flags.specs.Flags.{dataValue, dataLength, flag}
 use Rattle.record.specs.Value as values
-use Rattle.rfc6733.specs.Value.{kinds32, kinds64, fixed, dataAs}
+use Rattle.rfc6733.specs.Value.{kinds32, kinds64, oneOf, fixed, dataAs}
+use Rattle.rfc6733.proofs.Listed.{of-listed}
 use Rattle.record.specs.Value.{value, text}
 use Rattle.record.specs.Kinds.{address, grouped, unhandled}
 use Rattle.attribute.specs.ByTable.{known}
@@ -25,8 +25,7 @@ use Rattle.value.specs.declared.Value.the-variants.{Unhandled, Grouped, 
 use Rattle.value.specs.declared.IpAddr.{IpAddr}
 use Rattle.value.specs.declared.IpAddr.the-variants.{V4, V6}
 use Rattle.value.specs.declared.Read.{Read}
-use Rattle.value.specs.Values.{kindOf, addressNumber, numberOf, readAs, addressOf, textOf, textErrors, Shows, newValue}
-use Rattle.value.proofs.KnownKinds.{of-one}
+use Rattle.value.specs.Values.{kindOf, addressNumber, numberOf, readAs, addressOf, textOf, textErrors, Shows, valueIf}
 
 -- r was made of a value and its error flags
 abbrev pub Made : Value → ℕ → Read → Type 0
@@ -95,16 +94,18 @@ module _ (s : List ℕ) (r : Read) where
   pub ipv6 : 16 ≤ length s → Made (Address V6) 0 r → Shows (value address 0 0) s r
   ipv6 room made = an-address V6 made (rw (le-ltb _ _ room))
 
-  -- one of the kinds of numbers, in the words of `Value::new`
-  module _ (asAddress : List ℕ → values.Value) where
+  -- a number by the arm of its kind n, in the words of `Value::new_known`
+  module _ (tiles : Bool) (asAddress : List ℕ → values.Value) (k : ℕ) {n : ℕ} (arm : k ≡ n) where
     abbrev Number : ℕ → ℕ → Type 0
-    Number w k = readAs r ≡ fixed w k s → Shows (newValue asAddress (known k) s) s r
+    Number w n = readAs r ≡ fixed w n s → Shows (valueIf tiles asAddress (known n) s) s r
 
-    pub number-32 : (k : ℕ) → OneOf kinds32 k → Number 4 k
-    unfolding newValue dataAs
-    number-32 =
-        of-one (Number 4) kinds32 (a-number 4 _ refl, (a-number 4 _ refl, (a-number 4 _ refl, (a-number 4 _ refl, (a-number 4 _ refl, tt)))))
+    pub number-32 : oneOf n kinds32 ≡ true → readAs r ≡ fixed 4 n s → Shows (valueIf tiles asAddress (known k) s) s r
+    unfolding valueIf dataAs
+    number-32 one =
+        rw arm
+        (of-listed (Number 4) kinds32 (a-number 4 _ refl, (a-number 4 _ refl, (a-number 4 _ refl, (a-number 4 _ refl, (a-number 4 _ refl, tt)))))
+        n one)
 
-    pub number-64 : (k : ℕ) → OneOf kinds64 k → Number 8 k
-    unfolding newValue dataAs
-    number-64 = of-one (Number 8) kinds64 (a-number 8 _ refl, (a-number 8 _ refl, (a-number 8 _ refl, tt)))
+    pub number-64 : oneOf n kinds64 ≡ true → readAs r ≡ fixed 8 n s → Shows (valueIf tiles asAddress (known k) s) s r
+    unfolding valueIf dataAs
+    number-64 one = rw arm (of-listed (Number 8) kinds64 (a-number 8 _ refl, (a-number 8 _ refl, (a-number 8 _ refl, tt))) n one)

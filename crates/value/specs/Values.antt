@@ -1,7 +1,7 @@
 -- What data are by a dictionary: a value of the code as one of the definition.
 use Prim.Native.Nat.{ℕ}
 use mathlib.Core.Path.{_≡_}
-use mathlib.Core.Bool.{cond}
+use mathlib.Core.Bool.{Bool, cond}
 use mathlib.Core.List.{List}
 use lib.ListN.{length}
 use lib.Dec.{ltb, eqb}
@@ -82,9 +82,14 @@ pub record Shows (v : values.Value) (s : List ℕ) (r : Read) : Type 0 where
   pub value : readAs r ≡ v
   pub address : (a : IpAddr) → r .value ≡ Address a → a ≡ addressOf s (v .number)
 
--- data as the kind k, an Address as a dictionary has it. Of a group it is only asked whether its members tile: their flags are their own
-unfoldable pub newValue : (List ℕ → values.Value) → ℕ → List ℕ → values.Value
-newValue asAddress k s =
+-- data as the kind k, an Address as a dictionary has it. Of a group it is only asked whether its members tile, which `tiles` says: their
+-- flags are their own
+unfoldable pub valueIf : Bool → (List ℕ → values.Value) → ℕ → List ℕ → values.Value
+valueIf tiles asAddress k s =
     cond (eqb k kinds.grouped)
-    (cond (tiling s) (values.value kinds.grouped 0 0) (values.value kinds.unhandled dataValue 0))
+    (cond tiles (values.value kinds.grouped 0 0) (values.value kinds.unhandled dataValue 0))
     (dataAs asAddress k s)
+
+-- the same, where a group is asked
+unfoldable pub newValue : (List ℕ → values.Value) → ℕ → List ℕ → values.Value
+newValue asAddress k s = valueIf (tiling s) asAddress k s

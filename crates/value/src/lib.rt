@@ -18,12 +18,13 @@ use record::kinds::UNSIGNED64;
 use record::kinds::UTF8_STRING;
 use utf8::Utf8;
 ghost use mathlib.Core.Path.{_≡_};
-ghost use mathlib.Core.Bool.{true, cond};
+ghost use mathlib.Core.Bool.{true, cond, _||_};
 ghost use Rattle.rfc6733.specs.Dictionary.{bareAddress, familyAddress};
 ghost use Rattle.rfc6733.specs.Value.{kinds32, kinds64, oneOf, fixed};
+ghost use Rattle.rfc6733.specs.Records.{tiling};
 ghost use Rattle.flags.specs.Flags.{dataValue};
 ghost use Rattle.attribute.specs.ByTable.{known, addressBy};
-ghost use Rattle.value.specs.Values.{kindOf, addressNumber, numberOf, textOf, textErrors, readAs, Shows, newValue};
+ghost use Rattle.value.specs.Values.{kindOf, addressNumber, numberOf, textOf, textErrors, readAs, Shows, valueIf, newValue};
 
 /// AVP Data Format as specified in RFC 6733, section 4.2. Data that are no number stay in the input;
 /// a number is held as its bits, whatever its sign or form.
@@ -245,14 +246,28 @@ impl Value {
     pub fn new(families: bool, kind: u8, data: &[u8]) -> Read
         ensures { λ r. ⌜ Shows (newValue (addressBy families) (known kind) (now («data» .entry))) (now («data» .entry)) r ⌝ }
     {
+        Value::new_known(families, false, kind, data)
+    }
+
+    /// The same, where it may be known already that a group's members tile: `tiles` says so, and where it is false they are asked.
+    pub fn new_known(families: bool, tiles: bool, kind: u8, data: &[u8]) -> Read
+        ensures { λ r. ⌜ Shows (valueIf (tiles || tiling (now («data» .entry))) (addressBy families) (known kind) (now («data» .entry))) (now («data» .entry)) r ⌝ }
+    {
+        // A number's kind is a constant in its arm, so that the compiler knows what it builds. `&data[..]` keeps the slice in
+        // registers: one that is passed on whole is kept in memory.
         match kind {
             OCTET_STRING => Read::good(Value::OctetString),
-            INTEGER32 | UNSIGNED32 | FLOAT32 | ENUMERATED | TIME => Read::fixed_32(kind, data),
-            INTEGER64 | UNSIGNED64 | FLOAT64 => Read::fixed_64(kind, data),
-            GROUPED => Read::group(front::tiles(data)),
-            UTF8_STRING => Read::text(utf8::check(data), Value::UTF8String),
-            DIAMETER_IDENTITY => Read::text(utf8::check(data), Value::DiameterIdentity),
-            DIAMETER_URI => Read::text(utf8::check(data), Value::DiameterURI),
+            INTEGER32 => Read::fixed_32(INTEGER32, data),
+            INTEGER64 => Read::fixed_64(INTEGER64, data),
+            UNSIGNED32 => Read::fixed_32(UNSIGNED32, data),
+            UNSIGNED64 => Read::fixed_64(UNSIGNED64, data),
+            FLOAT32 => Read::fixed_32(FLOAT32, data),
+            FLOAT64 => Read::fixed_64(FLOAT64, data),
+            GROUPED => Read::group(tiles || front::tiles(&data[..])),
+            ENUMERATED => Read::fixed_32(ENUMERATED, data),
+            UTF8_STRING => Read::text(utf8::check(&data[..]), Value::UTF8String),
+            DIAMETER_IDENTITY => Read::text(utf8::check(&data[..]), Value::DiameterIdentity),
+            DIAMETER_URI => Read::text(utf8::check(&data[..]), Value::DiameterURI),
             ADDRESS => {
                 if families {
                     Read::family_address(data)
@@ -260,6 +275,7 @@ impl Value {
                     Read::bare_address(data)
                 }
             }
+            TIME => Read::fixed_32(TIME, data),
             _ => Read::unhandled(0),
         }
     }

@@ -6,6 +6,7 @@ use native.Mathlib.Omega.{arith}
 use lib.ListN.{length}
 use denote.Ref.{now}
 use borrow.Author.Needs.{needs}
+use borrow.Author.Tests.{eqb-true}
 use Rattle.octets.specs.Run.{Tree, tree}
 use Rattle.rfc6733.specs.Records.{avps}
 use Rattle.record.specs.Store.{stored}
@@ -58,6 +59,7 @@ fill-store-requires c κs =
         indices-fit = omega arith;
         depths-fit = omega (arith, k .shallow);
         levels-fit = omega arith;
+        all-tile = λ sure. sym (k .tried-is) ∙ sym (eqb-true _ _ sure) ∙ k .records-is;
       },
     )
 

@@ -18,8 +18,8 @@ use Rattle.avps.proofs.fill.+read_avp+read_run+read_value.Proof.Run as 
 use Rattle.avps.proofs.fill.+read_avp+read_run+read_value.Proof.Run.{run-calls, Inv-loop, μ-loop}
 use Rattle.avps.proofs.fill.+read_avp+read_run+read_value.Proof.Run.{run-loop, run-start, run-turn, run-within}
 use Rattle.avps.proofs.fill.+read_avp+read_run+read_value.Proof.Avp as of-avp
-use Rattle.avps.proofs.fill.+read_avp+read_run+read_value.Proof.Avp.{avp-calls, avp-start, avp-from-pads, avp-from-join, avp-end-join}
-use Rattle.avps.proofs.fill.+read_avp+read_run+read_value.Proof.Avp.{avp-opened, avp-room}
+use Rattle.avps.proofs.fill.+read_avp+read_run+read_value.Proof.Avp.{avp-calls, avp-start, avp-from-own, avp-from-standing, avp-from-end}
+use Rattle.avps.proofs.fill.+read_avp+read_run+read_value.Proof.Avp.{avp-opened, avp-room, avp-standing}
 use Rattle.avps.proofs.fill.+read_avp+read_run+read_value.Proof.Value as of-value
 use Rattle.avps.proofs.fill.+read_avp+read_run+read_value.Proof.Value.{value-calls, value-start}
 mod Measures
@@ -33,32 +33,27 @@ pub +read-avp+read-run+read-value-spec : {M : Type 1} → statement M
     (λ t.
     avp.spec (avp-calls t) (avp-at t) avp-reads.Post
     (λ c κs. tt)
-    (λ c. omega (arith, avp-opened t c))
-    (λ c. omega (arith, avp-opened t c))
-    (λ c. omega (arith, avp-opened t c))
-    (λ c. omega (arith, avp-opened t (c .before), avp-start t (c .before) .pre .1 .1))
-    (λ c. omega (arith, avp-start t (c .before) .pre .1 .1))
-    (λ c. omega (arith, avp-room t (c .before)))
-    (λ c. omega (arith, avp-room t (c .before)))
+    (λ c κs. avp-start t c .pre .1 .0)
+    (λ c κs. tt)
+    (of-avp.own-record-requires t)
+    (λ c. avp-room t (avp-from-own t c))
+    (of-avp.aggregate t)
+    (λ c κs. tt)
+    (λ c. omega (arith, avp-opened t (avp-from-standing t c)))
+    (λ c. omega (arith, avp-opened t (avp-from-standing t c)))
+    (λ c. omega (arith, avp-opened t (avp-from-standing t c)))
+    (λ c. let h = avp-from-standing t (c .before) in omega (arith, avp-opened t h, avp-start t h .pre .1 .1))
+    (λ c. omega (arith, avp-start t (avp-from-standing t (c .before)) .pre .1 .1))
+    (λ c. let k = c .before in omega (arith, avp-standing t k, avp-room t (avp-from-standing t k)))
+    (λ c. let k = c .before in omega (arith, avp-standing t k, avp-room t (avp-from-standing t k)))
     (λ c. search needs)
     (of-avp.read-value-requires t)
-    (λ c. omega (arith, avp-opened t (avp-from-pads t c)))
-    (λ c. omega (arith, avp-opened t (avp-from-pads t c)))
-    (λ c. search needs)
     (λ c κs. tt)
-    (λ c κs. tt)
-    (λ c κs. tt)
-    (of-avp.cast-t30 t)
-    (λ c. let h = avp-from-join t c in omega (arith, avp-opened t h, avp-start t h .pre .1 .1))
-    (λ c. let h = avp-from-join t c in omega (arith, avp-opened t h, avp-start t h .pre .1 .1))
-    (λ c. search needs)
-    (λ c. omega (arith, avp-start t (avp-from-join t c) .pre .1 .1))
-    (λ c. omega arith)
-    (λ c. omega (arith, avp-opened t (avp-from-join t (c .before))))
-    (λ c. omega (arith, avp-opened t (avp-from-join t (c .before))))
+    (of-avp.relend-found t)
+    (of-avp.aggregate-found t)
     (λ c κs. tt)
     (λ c.
-    let b = avp-start t (avp-from-join t (avp-end-join t c)) in
+    let b = avp-start t (avp-from-standing t (avp-from-end t c)) in
     omega (arith, of-avp.returns t c .count-is, b .pre .1 .1, b .good))
     (λ c. search needs)
     (of-avp.returns t))
@@ -69,11 +64,7 @@ pub +read-avp+read-run+read-value-spec : {M : Type 1} → statement M
     (λ c. search needs)
     (λ c. search needs)
     (λ c. search needs)
-    (λ c κs. tt)
-    (λ c. search needs)
-    (λ c. search needs)
-    (λ c. search needs)
-    (of-run.returns t)
+    (of-run.avp-requires t)
     (λ c. omega (arith, run-turn t c))
     (λ c. search needs)
     (λ c. omega (arith, run-turn t c))
@@ -100,7 +91,7 @@ pub +read-avp+read-run+read-value-spec : {M : Type 1} → statement M
     let u = run-turn t k in
     (u .fits, rw (c .join .ensures) (one-filled (run-start t l .pre .1 .1) (l .loop .inv .1) (own _ u) (r .read-avp .ensures))))
     (λ c. search needs)
-    (of-run.returns-2 t))
+    (of-run.returns t))
     (λ t.
     value.spec (value-calls t) (value-at t) value-reads.Post
     (λ c κs. tt)

@@ -10,13 +10,13 @@ use Rattle.avps.proofs.fill.read_value.Kinds as value-kinds
 use Rattle.avps.proofs.fill.read_value.Reads as value-reads
 
 abbrev pub μ-run : Measures 3 run-kinds.ps ℕ
-μ-run κs a = 3 * a .1 .1 .1 .1 .1 .0 + 2
+μ-run κs a = 3 * a .1 .1 .1 .1 .1 .1 .0 + 2
 
 abbrev pub μ-avp : Measures 3 avp-kinds.ps ℕ
-μ-avp κs a = 3 * a .1 .1 .1 .1 .1 .1 .1 .0 + 1
+μ-avp κs a = 3 * a .1 .1 .1 .1 .1 .1 .1 .1 .0 + 1
 
 abbrev pub μ-value : Measures 3 value-kinds.ps ℕ
-μ-value κs a = 3 * a .1 .1 .1 .1 .1 .1 .1 .0
+μ-value κs a = 3 * a .1 .1 .1 .1 .1 .1 .1 .1 .0
 
 abbrev pub run-at : ℕ → In 3 run-kinds.ps
 run-at t = and 3 run-kinds.ps (is 3 run-kinds.ps μ-run t) run-reads.Pre

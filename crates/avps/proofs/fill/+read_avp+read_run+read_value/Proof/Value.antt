@@ -8,9 +8,9 @@ use Rattle.attribute.specs.ByTable.{dictionaryBy}
 use Rattle.attribute.proofs.Dictionaries.{kind-is-known}
 use Rattle.value.specs.Values.{Shows, newValue}
 use Rattle.avps.proofs.OtherKinds.{other-address}
-use Rattle.avps.proofs.Entering.{Group, a-group, no-members, members-written}
+use Rattle.avps.proofs.Entering.{Group, known-value, a-group, no-members, members-written}
 use Rattle.attribute.proofs.kind.Reads as table-kind
-use Rattle.value.proofs.Value.new.Reads as new
+use Rattle.value.proofs.Value.new_known.Reads as new
 use Rattle.value.proofs.Value.kind.Reads as kind
 use Rattle.value.proofs.Value.number.Reads as number
 use Rattle.avps.proofs.fill.read_run.Reads as run-reads
@@ -33,11 +33,13 @@ module _ (t : ℕ) where
   value-shown : (c : value.After-kind2 (value-calls t) (value-at t) value-reads.Post)
       → let b = value-start c in
       let D = by b in
-      Shows (newValue (D .asAddress) (D .kind (b .args .code) (b .args .vendor)) (now (b .args .«data»))) (now (b .args .«data»)) (c .before .new .result)
+      Shows (newValue (D .asAddress) (D .kind (b .args .code) (b .args .vendor)) (now (b .args .«data»))) (now (b .args .«data»)) (c .before .new-known .result)
   unfolding dictionaryBy
   value-shown c =
-      let a = value-start c .args in
-      rw (c .before .before .kind .ensures, kind-is-known (a .d) (now (a .kinds)) (a .code) (a .vendor)) at (c .before .new .ensures)
+      let b = value-start c in
+      let a = b .args in
+      let known = rw (c .before .before .kind .ensures, kind-is-known (a .d) (now (a .kinds)) (a .code) (a .vendor)) at (c .before .new-known .ensures) in
+      rw (known-value (by b) (a .code) (a .vendor) (now (a .«data»)) (a .whole) (b .pre .1 .0 .1)) at known
 
   -- a value that is Grouped is entered
   value-group : (c : value.Then1 (value-calls t) (value-at t) value-reads.Post)
