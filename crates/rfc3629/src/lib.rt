@@ -41,8 +41,8 @@ pub fn is_utf8_4(a: u8, b: u8, c: u8, d: u8) -> bool
         | (is_byte(a, 0xF4) & in_range(b, 0x80, 0x8F) & is_tail(c) & is_tail(d))
 }
 
-// UTF8-tail   = %x80-BF
-fn is_tail(b: u8) -> bool
+/// UTF8-tail   = %x80-BF
+pub fn is_tail(b: u8) -> bool
     ensures { λ r. ⌜ r ≡ within UTF8-tail b ⌝ }
 {
     in_range(b, 0x80, 0xBF)

@@ -1,3 +1,4 @@
 mod Runs
 mod Characters
+mod FirstByte
 pub mod Answers
