@@ -30,13 +30,9 @@ unfolding run
 run-above d s h e = rw (table-some s h, lt-leb d (entryAt s .depth) e)
 
 -- nothing is deeper than what is allowed
-pub none-deeper : (d n : ℕ) (s : List ℕ) → Valid d n (tableOf s) → run (d + 1) s ≡ none
-unfolding run
-none-deeper d n s v = by (tableOf s) v
-  where
-    by : (rs : List Record) → Valid d n rs → leading (d + 1) (forest rs) ≡ none
-    by [] w = refl
-    by (r ∷ rs) w = rw (lt-leb (d + 1) (r .depth) (omega (arith, keeps-good d n r (w .0))))
+pub none-deeper : (d n : ℕ) (rs : List Record) → Valid d n rs → leading (d + 1) (forest rs) ≡ none
+none-deeper d n [] v = refl
+none-deeper d n (r ∷ rs) v = rw (lt-leb (d + 1) (r .depth) (omega (arith, keeps-good d n r (v .0))))
 
 -- ---- a turn
 
@@ -85,6 +81,7 @@ module _ (d : ℕ) (s : List ℕ) (some : recordSize ≤ length s) (level : entr
 
 pub turn : (d n : ℕ) (s : List ℕ) → recordSize ≤ length s → Valid d n (tableOf s) → d ≤ entryAt s .depth
     → Turn d n s (drop (count (one s) * recordSize) s)
+unfolding run
 turn d n s some v low =
     let w : Valid d n (entryAt s ∷ tableOf (drop recordSize s)) = rw (table-some s some) at v in
     let g = keeps-good d n (entryAt s) (w .0) in
@@ -96,6 +93,6 @@ turn d n s some v low =
       run-is = run-at d s some level;
       fits = one-fits d s some level;
       valid-inside = λ e. rw (after-group (entryAt s) e, level) at (w .1);
-      none-inside = λ e. none-deeper d n (drop recordSize s) (rw (after-leaf (entryAt s) e, level) at (w .1));
+      none-inside = λ e. none-deeper d n (tableOf (drop recordSize s)) (rw (after-leaf (entryAt s) e, level) at (w .1));
       valid-after = rw (rest-is d s some level) (valid-tail (allowedAfter (entryAt s)) d n (tableOf (drop recordSize s)) (w .1));
     }

@@ -15,10 +15,10 @@ use Rattle.record.specs.Record.{Record, recordSize}
 use Rattle.record.specs.Table.{entryAt, tableOf}
 use Rattle.record.specs.Parents.{topLevel, parentAt}
 use Rattle.rfc6733.specs.Writer.{isGroup, headOf, statedData, keeps, keepsParent, keepers, allowedAfter, keepsLeaf}
-use Rattle.record.proofs.Steps as steps
-use Rattle.record.proofs.Steps.{from, next}
+use Rattle.record.proofs.Steps.{from, none-left}
 use Rattle.round_trip.specs.Rules.{Good}
 use Rattle.round_trip.proofs.Rules.{keeps-good}
+use Rattle.rules.proofs.Entries.{next-part}
 use Rattle.rules.proofs.LastOnes.{Known, none-known, one-known}
 
 -- ---- a record
@@ -62,12 +62,13 @@ none-passed table available =
 
 module _ {table : List ℕ} {available k allowed : ℕ} {last : List ℕ} (p : Passed table available k allowed last) where
   pub all-passed : length table / recordSize ≤ k → k ≡ keepers [] 1 available (tableOf table)
-  all-passed h = sym (p .kept-is ∙ rw (steps.none-left table k h) (omega arith))
+  all-passed h = sym (p .kept-is ∙ rw (none-left table k h) (omega arith))
 
-  -- a record is there, read from the part of the table that is lent
-  module _ (r : Record) (some : k < length table / recordSize) (read : r ≡ entryAt (take (length table - k * recordSize) (from table k))) where
+  -- a record is there, read from its own part of the table
+  module _ (r : Record) (some : k < length table / recordSize)
+      (read : r ≡ entryAt (take (k * recordSize + recordSize - k * recordSize) (from table k))) where
     stops : keeps allowed available r && keepsParent (p .earlier) r ≡ false → k ≡ keepers [] 1 available (tableOf table)
-    stops e = sym (p .kept-is ∙ rw (next table k some read) (rw e (omega arith)))
+    stops e = sym (p .kept-is ∙ rw (next-part table k some read) (rw e (omega arith)))
 
     pub own-broken : keeps allowed available r ≡ false → k ≡ keepers [] 1 available (tableOf table)
     own-broken e = stops (rw e)
@@ -90,5 +91,5 @@ module _ {table : List ℕ} {available k allowed : ℕ} {last : List ℕ} (p : P
             inside = omega arith;
             counted = omega (arith, p .counted);
             known = one-known (p .known) (r .depth) k (good .some) (good .most) (p .counted);
-            kept-is = p .kept-is ∙ rw (next table k some read) (rw (own, parent) (omega arith));
+            kept-is = p .kept-is ∙ rw (next-part table k some read) (rw (own, parent) (omega arith));
           }

@@ -1,3 +1,4 @@
 pub mod LastOnes
+pub mod Entries
 pub mod Checks
 pub mod Records

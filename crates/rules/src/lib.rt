@@ -118,7 +118,8 @@ pub fn keepers(table: &[u8], available: usize) -> usize
     let mut allowed: u8 = 1;
     let mut last = [Record::TOP_LEVEL as usize; AVP::MOST_DEPTH + 1];
     while kept < table.len() / Record::SIZE {
-        let r = Record::get(&table[kept * Record::SIZE..]);
+        let at = kept * Record::SIZE;
+        let r = Record::get(&table[at..at + Record::SIZE]);
         if allowed < r.depth {
             return kept;
         }

@@ -21,16 +21,13 @@ use Rattle.rules.proofs.Records.{is-group, no-group}
 use Rattle.writer.specs.declared.emit.Taken.{Taken}
 use Rattle.writer.specs.Emitting.{LeafRoom, Done}
 use Rattle.writer.proofs.Parts.{leaf-sizes}
-use Rattle.writer.proofs.Steps.{AtFront, members, from, Passed, none-passed, Step}
+use Rattle.writer.proofs.Steps.{AtFront, members, from, bytes-size, Passed, none-passed, Step}
 
 -- ---- a run, record by record
 
-abbrev pub bytes-size : List ℕ → Forest → ℕ
-bytes-size pool f = length (forestBytes pool f)
-
 -- of the run f, n records are passed and their b bytes put over `before`, which is `now`; the table from there on is s
 pub record Going (pool : List ℕ) (depth : ℕ) (f : Forest) (s : List ℕ) (n b : ℕ) (before now : List ℕ) : Type 0 where
-  pub passed : Passed (bytes-size pool) depth (length pool) f s n b
+  pub passed : Passed pool depth f s n b
   pub put : List ℕ
   pub size-is : length put ≡ b
   pub bytes-are : forestBytes pool f ≡ put ++ forestBytes pool (run depth s)
@@ -42,7 +39,7 @@ none-put {out = out} v =
     record { passed = none-passed v; put = []; size-is = refl; bytes-are = refl; out-is = sym (over-none out) }
 
 pub one-put : {pool : List ℕ} {depth : ℕ} {f : Forest} {table : List ℕ} {n b : ℕ} {r : Record} {before now : List ℕ} {t : Taken} {back : List ℕ}
-    → Step (bytes-size pool) depth (length pool) f table n b r → Going pool depth f (from table n) n b before now
+    → Step pool depth f table n b r → Going pool depth f (from table n) n b before now
     → Done (one (from table n)) pool t (drop b now) back
     → Going pool depth f (from table (n + t .records)) (n + t .records) (b + t .size) before (putMid b (length now - b) now back)
 one-put {pool} {depth} {f} {table} {n} {b} {r} {before} {now} {t} {back} s g d =

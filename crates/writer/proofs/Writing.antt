@@ -16,7 +16,6 @@ use Rattle.record.specs.Record.{recordSize}
 use Rattle.record.specs.Forest.{Forest, none, node, leading, forest}
 use Rattle.rfc6733.specs.Writer.{Fields, keepers, forestBytes, messageBytes, tableBytes, most24, written, headerFields}
 use Rattle.record.specs.Table.{tableOf}
-use Rattle.round_trip.specs.Forests.{size}
 use Rattle.round_trip.specs.Rules.{Valid, Kept}
 use Rattle.round_trip.specs.Tables.{run}
 use Rattle.round_trip.proofs.Rules.{Told, keepers-valid, keepers-most}
@@ -26,6 +25,8 @@ use Rattle.record.proofs.Tables.{table-length}
 use Rattle.round_trip.proofs.Written.{writable-written}
 use Rattle.writer.specs.declared.emit.Taken.{Taken}
 use Rattle.writer.specs.Emitting.{Done}
+use Rattle.writer.specs.Sizing.{ownSizes}
+use Rattle.writer.proofs.Sizes.{sum-is}
 
 -- ---- the whole table is one run
 
@@ -38,15 +39,16 @@ unfolding run
 run-all n table v = leading-all n (forest (tableOf table)) (valid-kept 1 n (tableOf table) v)
 
 pub record Total (f : Fields) (table pool : List ℕ) : Type 0 where
-  pub bytes-is : length (forestBytes pool (run 1 table)) ≡ size (run 1 table)
-  pub is : length (tableBytes f table pool) ≡ 20 + size (run 1 table)
+  pub bytes-is : length (forestBytes pool (run 1 table)) ≡ ownSizes (tableOf table)
+  pub is : length (tableBytes f table pool) ≡ 20 + ownSizes (tableOf table)
 
 pub total : (f : Fields) (table pool : List ℕ) → Valid 1 (length pool) (tableOf table) → Total f table pool
 total f table pool v =
     let e = run-all (length pool) table v in
+    let sum = sum-is 1 (length pool) (tableOf table) v in
     record {
-      bytes-is = rw e (long pool (forest (tableOf table)) (valid-kept 1 (length pool) (tableOf table) v) .is);
-      is = rw e (total-size f table pool v);
+      bytes-is = rw (e, sum) (long pool (forest (tableOf table)) (valid-kept 1 (length pool) (tableOf table) v) .is);
+      is = rw sum (total-size f table pool v);
     }
 
 -- ---- a table that keeps the rules
@@ -89,7 +91,7 @@ module _ (f : Fields) (table pool : List ℕ) (room : ℕ) where
           )
 
       module _ (none-cut : length table % recordSize ≡ 0) where
-        pub too-long : most24 < 20 + size (run 1 table) → refused TooLong ≡ written f table pool room
+        pub too-long : most24 < 20 + ownSizes (tableOf table) → refused TooLong ≡ written f table pool room
         unfolding written
         too-long h =
             rw (
@@ -98,10 +100,10 @@ module _ (f : Fields) (table pool : List ℕ) (room : ℕ) where
               le-ltb k (length table / recordSize) all,
               eq-eqb (length table % recordSize) 0 none-cut,
               total f table pool valid .is,
-              lt-ltb most24 (20 + size (run 1 table)) h,
+              lt-ltb most24 (20 + ownSizes (tableOf table)) h,
             )
 
-        module _ (short : 20 + size (run 1 table) ≤ most24) (n : ℕ) (n-is : n ≡ 20 + size (run 1 table)) where
+        module _ (short : 20 + ownSizes (tableOf table) ≤ most24) (n : ℕ) (n-is : n ≡ 20 + ownSizes (tableOf table)) where
           pub no-room : room < n → refused (NoRoom n) ≡ written f table pool room
           unfolding written
           no-room h =
@@ -112,8 +114,8 @@ module _ (f : Fields) (table pool : List ℕ) (room : ℕ) where
                 le-ltb k (length table / recordSize) all,
                 eq-eqb (length table % recordSize) 0 none-cut,
                 total f table pool valid .is,
-                le-ltb most24 (20 + size (run 1 table)) short,
-                lt-ltb room (20 + size (run 1 table)) (omega arith),
+                le-ltb most24 (20 + ownSizes (tableOf table)) short,
+                lt-ltb room (20 + ownSizes (tableOf table)) (omega arith),
               )
 
           pub fits : n ≤ room → accepted n ≡ written f table pool room
@@ -127,7 +129,7 @@ module _ (f : Fields) (table pool : List ℕ) (room : ℕ) where
 -- ---- the message
 
 module _ (f : Fields) (table pool : List ℕ) (v : Valid 1 (length pool) (tableOf table)) where
-  message-is : (n : ℕ) → n ≡ 20 + size (run 1 table) → pack (headerFields f n) ++ forestBytes pool (run 1 table) ≡ tableBytes f table pool
+  message-is : (n : ℕ) → n ≡ 20 + ownSizes (tableOf table) → pack (headerFields f n) ++ forestBytes pool (run 1 table) ≡ tableBytes f table pool
   unfolding tableBytes messageBytes
   message-is n e =
       let t = total f table pool v in
@@ -136,7 +138,7 @@ module _ (f : Fields) (table pool : List ℕ) (v : Valid 1 (length pool) (tableO
       ∙ ap (λ (x : Forest). messageBytes f (forestBytes pool x)) (run-all (length pool) table v)
 
   -- the members first, into the part after the header, and then the header
-  pub message-put : (t : Taken) (before back last : List ℕ) (n : ℕ) → 20 ≤ length before → n ≡ 20 + size (run 1 table)
+  pub message-put : (t : Taken) (before back last : List ℕ) (n : ℕ) → 20 ≤ length before → n ≡ 20 + ownSizes (tableOf table)
       → Done (run 1 table) pool t (drop 20 before) back → last ≡ over (pack (headerFields f n)) (putMid 20 (length before - 20) before back)
       → last ≡ over (tableBytes f table pool) before
   message-put t before back last n room e d put =

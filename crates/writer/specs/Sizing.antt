@@ -1,21 +1,21 @@
--- What measuring a run of a table asks for, and what it answers.
-use Prim.Native.Nat.{ℕ, _≤_}
+-- The size of a table's AVPs, record by record, and what measuring it answers.
+use Prim.Native.Nat.{ℕ, _+_}
 use mathlib.Core.Bool.{cond}
-use mathlib.Core.List.{List}
+use mathlib.Core.List.{List, [], _∷_}
 use lib.Dec.{ltb}
-use Rattle.record.specs.Forest.{Forest}
-use Rattle.record.specs.Table.{tableOf}
-use Rattle.rfc6733.specs.Writer.{most24}
-use Rattle.round_trip.specs.Forests.{count, size}
-use Rattle.round_trip.specs.Rules.{Valid}
+use Rattle.record.specs.Record.{Record}
+use Rattle.rfc6733.specs.Writer.{isGroup, headOf}
 use Rattle.writer.specs.declared.size.Measured.{Measured}
 use Rattle.writer.specs.declared.size.Measured.the-variants.{Over, Size}
 
--- the table is valid at a depth, whatever its places point into
-pub record Orderly (depth : ℕ) (table : List ℕ) (left : ℕ) : Type 0 where
-  pub available : ℕ
-  pub valid : Valid depth available (tableOf table)
-  pub short : left ≤ most24
+-- the bytes that a record puts itself: a group its header, since its members put their own; any other its AVP with the padding
+unfoldable pub ownSize : Record → ℕ
+ownSize r = cond (isGroup r) (headOf r) (r .length + r .padding)
 
-unfoldable pub sizedOf : ℕ → Forest → Measured
-sizedOf left f = cond (ltb left (size f)) Over (Size (count f) (size f))
+abbrev pub ownSizes : List Record → ℕ
+ownSizes [] = 0
+ownSizes (r ∷ rs) = ownSize r + ownSizes rs
+
+-- the size is n, and so many bytes are left for it
+unfoldable pub sizedOf : ℕ → ℕ → Measured
+sizedOf left n = cond (ltb left n) Over (Size n)

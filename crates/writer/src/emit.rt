@@ -4,7 +4,8 @@ use record::Record;
 use record::kinds::GROUPED;
 use rules::header_size;
 ghost use mathlib.Core.Path.{_≡_};
-ghost use Prim.Native.Nat.{_+_, _≤_, _<_};
+ghost use mathlib.Core.List.{_++_};
+ghost use Prim.Native.Nat.{_+_, _≤_};
 ghost use lib.ListN.{length};
 ghost use lib.Seq.{sets};
 ghost use Rattle.octets.specs.Octets.{octets, pack, over, Put};
@@ -20,32 +21,31 @@ pub(super) struct Taken {
     pub size: usize,
 }
 
-pub(super) fn put_u8(out: &mut [u8], at: usize, v: u8)
-    requires { ⌜ at < length (now out) ⌝ }
-    ensures { λ _. ⌜ now (out .exit) ≡ sets (now (out .entry)) at (octets 1 v) ⌝ }
-{
-    out[at] = v;
-}
-
-pub(super) fn put_u24(out: &mut [u8], at: usize, v: u32)
-    requires { ⌜ at + 3 ≤ length (now out) ⌝ }
-    ensures { λ _. ⌜ now (out .exit) ≡ sets (now (out .entry)) at (octets 3 v) ⌝ }
-{
-    let b = octets::to_be_u24(v);
-    out[at] = b[0];
-    out[at + 1] = b[1];
-    out[at + 2] = b[2];
-}
-
 pub(super) fn put_u32(out: &mut [u8], at: usize, v: u32)
     requires { ⌜ at + 4 ≤ length (now out) ⌝ }
     ensures { λ _. ⌜ now (out .exit) ≡ sets (now (out .entry)) at (octets 4 v) ⌝ }
 {
-    let b = octets::to_be_u32(v);
-    out[at] = b[0];
-    out[at + 1] = b[1];
-    out[at + 2] = b[2];
-    out[at + 3] = b[3];
+    octets::word::put_u32(&mut out[at..at + 4], v);
+}
+
+// A byte and then three bytes, as one number, since that is one store.
+pub(super) fn put_u8_u24(out: &mut [u8], at: usize, high: u8, low: u32)
+    requires { ⌜ at + 4 ≤ length (now out) ⌝ }
+    ensures { λ _. ⌜ now (out .exit) ≡ sets (now (out .entry)) at (octets 1 high ++ octets 3 low) ⌝ }
+{
+    put_u32(out, at, high as u32 * 0x100_0000 + low % 0x100_0000);
+}
+
+// Data of four bytes, as most numbers have, are one word.
+fn copy(src: &[u8], dst: &mut [u8])
+    requires { ⌜ length (now src) ≤ length (now dst) ⌝ }
+    ensures { λ _. ⌜ now (dst .exit) ≡ over (now (src .entry)) (now (dst .entry)) ⌝ }
+{
+    if src.len() == 4 {
+        put_u32(dst, 0, octets::word::be_u32(src));
+        return;
+    }
+    bytes::copy(src, dst);
 }
 
 // Puts the header of an AVP (RFC 6733, section 4.1), with its length.
@@ -54,8 +54,7 @@ fn put_head(r: Record, n: u32, out: &mut [u8])
     ensures { λ _. ⌜ now (out .exit) ≡ over (pack (headFields r n)) (now (out .entry)) ⌝ }
 {
     put_u32(out, 0, r.code);
-    put_u8(out, 4, r.flags);
-    put_u24(out, 5, n);
+    put_u8_u24(out, 4, r.flags, n);
     if !AVP::vendor_specific_flag(r.flags) {
         return;
     }
@@ -66,9 +65,19 @@ fn put_padding(r: Record, out: &mut [u8])
     requires { ⌜ (r .padding ≤ length (now out)) × (r .padding ≤ 3) ⌝ }
     ensures { λ _. ⌜ now (out .exit) ≡ over (padBytes r) (now (out .entry)) ⌝ }
 {
+    if r.padding == 0 {
+        return;
+    }
     let pads = octets::to_be_u24(r.pads);
-    let size = r.padding as usize;
-    bytes::copy(&pads[..size], out);
+    out[0] = pads[0];
+    if r.padding == 1 {
+        return;
+    }
+    out[1] = pads[1];
+    if r.padding == 2 {
+        return;
+    }
+    out[2] = pads[2];
 }
 
 // Puts the AVP of a record that is no group, with its data from `pool`, and answers its size.
@@ -81,7 +90,7 @@ fn emit_leaf(r: Record, pool: &[u8], out: &mut [u8]) -> usize
     let from = r.place as usize;
     let to = from + (length - header_size);
     put_head(r, r.length, out);
-    bytes::copy(&pool[from..to], &mut out[header_size..]);
+    copy(&pool[from..to], &mut out[header_size..]);
     put_padding(r, &mut out[length..]);
     length + r.padding as usize
 }
@@ -94,11 +103,12 @@ pub(super) fn emit_run(table: &[u8], pool: &[u8], depth: u8, out: &mut [u8]) -> 
     let mut records: usize = 0;
     let mut size: usize = 0;
     while records < table.len() / Record::SIZE {
-        let r = Record::get(&table[records * Record::SIZE..]);
+        let at = records * Record::SIZE;
+        let r = Record::get(&table[at..at + Record::SIZE]);
         if r.depth < depth {
             return Taken { records, size };
         }
-        let t = emit_avp(r, &table[records * Record::SIZE..], pool, &mut out[size..]);
+        let t = emit_avp(r, &table[at..], pool, &mut out[size..]);
         records += t.records;
         size += t.size;
     }

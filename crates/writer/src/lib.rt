@@ -36,10 +36,8 @@ impl Fields {
         requires { ⌜ 20 ≤ length (now out) ⌝ }
         ensures { λ _. ⌜ now (out .exit) ≡ over (pack (headerFields (fieldsAs self) n)) (now (out .entry)) ⌝ }
     {
-        emit::put_u8(out, 0, Header::VERSION);
-        emit::put_u24(out, 1, n);
-        emit::put_u8(out, 4, self.flags);
-        emit::put_u24(out, 5, self.code);
+        emit::put_u8_u24(out, 0, Header::VERSION, n);
+        emit::put_u8_u24(out, 4, self.flags, self.code);
         emit::put_u32(out, 8, self.app_id);
         emit::put_u32(out, 12, self.hop_id);
         emit::put_u32(out, 16, self.end_id);
@@ -63,11 +61,7 @@ pub fn write(fields: Fields, table: &[u8], pool: &[u8], out: &mut [u8]) -> Writt
     if remainder != 0 {
         return Written::Refused(Refusal::BadTable(count));
     }
-    let Measured::Size { records: _, size } = size::size_run(
-        table,
-        1,
-        Fields::MOST_LENGTH - Header::SIZE,
-    ) else {
+    let Measured::Size(size) = size::size_table(table, Fields::MOST_LENGTH - Header::SIZE) else {
         return Written::Refused(Refusal::TooLong);
     };
     let total = Header::SIZE + size;

@@ -100,8 +100,9 @@ keepers-spec =
     (λ c. search needs)
     (λ c. none-passed _ _)
     (λ c. let l = c .before in omega (arith, l .loop .inv .inside, l .before .before .good))
-    (λ c. c .before .loop .inv .inside)
-    (λ c. c .before .loop .inv .inside)
+    (λ c. omega (arith, c .before .before .before .good))
+    (λ c. search needs)
+    (λ c. omega arith)
     (λ c. search needs)
     (λ c κs. tt)
     returns

@@ -16,6 +16,7 @@ use Rattle.round_trip.specs.Tables.{run}
 use Rattle.writer.specs.Answers.{fieldsAs}
 use Rattle.record.specs.Written.{answerOf}
 use Rattle.writer.specs.Emitting.{Done}
+use Rattle.writer.specs.Sizing.{ownSizes}
 use Rattle.writer.proofs.Sizes.{Known, was-over, was-size}
 use Rattle.writer.proofs.Writing.{total, all-valid, bad-header, bad-record, cut-off, too-long, no-room, fits, message-put}
 use Rattle.writer.proofs.write.Statement.{statement}
@@ -45,9 +46,9 @@ table-valid : (c : tie.Else2) → let b = start c in Valid 1 (length (pool b)) (
 table-valid c = let b = start c in all-valid (table b) (pool b) _ (c .before .keepers .ensures) (omega arith)
 
 size-known : (c : tie.After-known-told)
-    → let found = c .before .size .given .0 in
-    Known 16777195 (run 1 (table (start (c .before .before .before .before .before)))) (found .0) (found .1 .0)
-size-known c = was-size _ _ _ _ (sym (c .before .size .given .1) ∙ c .before .before .before .size-run .ensures)
+    → let b = start (c .before .before .before .before .before) in
+    Known 16777195 (ownSizes (tableOf (table b))) (c .before .size .given .0 .0)
+size-known c = was-size _ _ _ (sym (c .before .size .given .1) ∙ c .before .before .before .size-table .ensures)
 
 members-put : (c : tie.After-emit-run)
     → let b = start (kept (c .before .before)) in
@@ -70,14 +71,11 @@ returns-3 c =
     let b = start (c .before) in
     (cut-off (fields b) (table b) _ _ (omega arith) _ (c .before .before .keepers .ensures) (omega arith) (c .if3 .taken), refl)
 
-size-run-requires : tie.Need-size-run-requires
-size-run-requires c κs = record { available = _; valid = table-valid (c .before); short = omega arith }
-
 returns-4 : tie.Need-returns-4
 unfolding answerOf output fieldsAs
 returns-4 c =
     let past = c .before .before .before .before in
-    let over = was-over _ _ (sym (c .enum-told .given .1) ∙ c .before .before .size-run .ensures) in (
+    let over = was-over _ _ (sym (c .enum-told .given .1) ∙ c .before .before .size-table .ensures) in (
       too-long (fields (start past)) _ _ _ (omega arith) _ (past .before .keepers .ensures) (omega arith) (omega arith) (omega arith),
       refl,
     )
@@ -128,7 +126,7 @@ write-spec =
     returns-2
     returns-3
     (λ c. search needs)
-    size-run-requires
+    (λ c κs. tt)
     (λ c. search needs)
     (λ c. search needs)
     returns-4

@@ -12,18 +12,14 @@ returns c =
     let hop = end .before .before .before .before in
     let app = hop .before .before .before .before in
     let code = app .before .before .before .before in
-    let flags = code .before .before .before .before in
-    let size = flags .before .before .before .before in
-    let version = size .before .before .before .before in
-    let start = version .before .before .before in
+    let size = code .before .before .before .before in
+    let start = size .before .before .before in
     rw (
       end .put-u323 .ensures,
       hop .put-u322 .ensures,
       app .put-u32 .ensures,
-      code .put-u242 .ensures,
-      flags .put-u82 .ensures,
-      size .put-u24 .ensures,
-      version .put-u8 .ensures,
+      code .put-u8-u242 .ensures,
+      size .put-u8-u24 .ensures,
     )
     (header-put (fieldsAs (start .args .self)) _ _ (start .pre))
 
@@ -31,8 +27,6 @@ pub put-spec : {M : Type 1} → statement M
 put-spec =
     tie.close
     (tie.spec
-    (λ c κs. search needs)
-    (λ c κs. search needs)
     (λ c κs. search needs)
     (λ c κs. search needs)
     (λ c κs. search needs)

@@ -4,9 +4,9 @@
 -- one more for a run: it falls from a run to its records and from a group inwards.
 use Prim.Native.Nat.{ℕ, _+_, _-_, _*_, _^_, _≤_, _<_}
 use mathlib.Core.Path.{_≡_, refl}
-use mathlib.Core.List.{List, append-nil}
+use mathlib.Core.List.{List}
 use native.Mathlib.Omega.{arith}
-use lib.ListN.{length, drop, length-append, length-drop}
+use lib.ListN.{length, drop, length-drop}
 use denote.Ref.{now}
 use borrow.Author.Needs.{needs}
 use borrow.Fn.Kinds.{In}
@@ -18,8 +18,8 @@ use Rattle.round_trip.specs.Tables.{run, one}
 use Rattle.round_trip.proofs.Lengths.{head-low}
 use Rattle.record.proofs.Record.get.Reads as get-reads
 use Rattle.writer.specs.Emitting.{Done}
-use Rattle.writer.proofs.Runs.{bytes-size, Going, none-put, one-put, all-put, group-long, group-done, leaf-room, leaf-done}
-use Rattle.writer.proofs.Steps.{AtFront, at-front, members, from, ends, ends-above, Step, step}
+use Rattle.writer.proofs.Runs.{Going, none-put, one-put, all-put, group-long, group-done, leaf-room, leaf-done}
+use Rattle.writer.proofs.Steps.{AtFront, at-front, members, from, bytes-size, ends, ends-above, Step, step}
 use Rattle.writer.proofs.emit.emit_avp.Reads as emit-avp
 use Rattle.writer.proofs.emit.emit_avp.Kinds as emit-avp-kinds
 use Rattle.writer.proofs.emit.+emit_avp+emit_run.Lts-emit_avp as emit-avp-lts
@@ -207,12 +207,11 @@ module _ (t : ℕ) where
   next : (c : Found)
       → let l = loop c in
       let depth = start l .args .depth in
-      let m = bytes-size (bytes-from l) in
-      Step m depth (length (bytes-from l)) (run depth (whole l)) (whole l) (l .loop .records) (l .loop .size) (c .before .before .get .result)
+      Step (bytes-from l) depth (run depth (whole l)) (whole l) (l .loop .records) (l .loop .size) (c .before .before .get .result)
   next c =
       let l = loop c in
       let read = c .before .before .get .ensures in
-      step (whole l) _ _ (omega arith) read (λ r i t. simp (append-nil, length-append)) (omega arith) (l .loop .inv .2 .passed)
+      step (whole l) _ _ (omega arith) read (omega arith) (l .loop .inv .2 .passed)
 
   one-done : (c : One)
       → let l = loop (found c) in
@@ -226,7 +225,7 @@ module _ (t : ℕ) where
   emit-run-returns : emit-run-lts.Need-returns (emit-run-calls t) (emit-run-at t) emit-run.Post emit-run-Inv-loop emit-run-μ-loop
   emit-run-returns c =
       let l = c .before .before .before .before .before in
-      all-put (ends-above (whole l) _ _ (omega arith) (c .before .before .get .ensures) _ (omega arith)) (l .loop .inv .2)
+      all-put (ends-above (whole l) (l .loop .records) _ (omega arith) (c .before .before .get .ensures) _ (omega arith)) (l .loop .inv .2)
 
   emit-run-emit-avp-requires : emit-run-lts.Need-emit-avp-requires (emit-run-calls t) (emit-run-at t) emit-run.Post emit-run-Inv-loop emit-run-μ-loop
   emit-run-emit-avp-requires c κs =
@@ -288,13 +287,13 @@ pub +emit-avp+emit-run-spec : {M : Type 1} → statement M
     emit-run-μ-loop
     (λ c. (omega arith, refl, none-put (c .before .before .before .pre .1 .valid)))
     (λ c. omega (arith, c .before .loop .inv .0, start t (c .before) .good))
-    (λ c. c .before .loop .inv .0)
-    (λ c. c .before .loop .inv .0)
+    (λ c. omega (arith, start t (c .before) .good))
+    (λ c. search needs)
+    (λ c. omega arith)
     (λ c. search needs)
     (λ c κs. tt)
     (λ c. search needs)
     (emit-run-returns t)
-    (λ c. omega (arith, loop t c .loop .inv .0, start t (loop t c) .good))
     (λ c. loop t c .loop .inv .0)
     (λ c. loop t c .loop .inv .0)
     (λ c. search needs)

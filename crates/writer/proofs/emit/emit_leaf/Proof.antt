@@ -59,7 +59,7 @@ returns c =
     let d = copied c in
     let p = put d in
     leaf-put (start (sized p) .args .r) _ _ (start (sized p) .pre) (sized p .header-size .ensures) (p .put-head .ensures)
-    (p .put-head .kept .1 .1 .0) refl (d .copy .ensures .1) (copied-length d) (c .before .before .before .put-padding .ensures)
+    (p .put-head .kept .1 .1 .0) refl (d .copy .ensures) (copied-length d) (c .before .before .before .put-padding .ensures)
 
 pub emit-leaf-spec : {M : Type 1} → statement M
 emit-leaf-spec =

@@ -11,16 +11,15 @@ use Rattle.writer.proofs.emit.put_head.Statement.{statement}
 use Rattle.writer.proofs.emit.put_head.Tie as tie
 
 -- the three fields that every header has
-abbrev start : tie.After-put-u24 → tie.Start
-start c = c .before .before .before .before .before .before .before .before .before .before .before
+abbrev start : tie.After-put-u8-u24 → tie.Start
+start c = c .before .before .before .before .before .before .before
 
 returns : tie.Need-returns
 returns c =
     let size = c .before .before .before .before in
-    let flags = size .before .before .before .before in
-    let code = flags .before .before .before .before in
+    let code = size .before .before .before .before in
     let none = sym (c .before .vendor-specific-flag .ensures) ∙ not-true _ (c .if1 .taken) in
-    rw (size .put-u24 .ensures, flags .put-u8 .ensures, code .put-u32 .ensures)
+    rw (size .put-u8-u24 .ensures, code .put-u32 .ensures)
     (head-put (start size .args .r) _ _ none (start size .pre .1))
 
 vendor-there : (c : tie.Else1) → let r = (start (c .before .before .before .before) .args .r) in bit vendorBit (r .flags) ≡ true
@@ -35,16 +34,14 @@ returns-2 : tie.Need-returns-2
 returns-2 c =
     let vendor = c .before .before in
     let size = vendor .before .before .before .before .before .before in
-    let flags = size .before .before .before .before in
-    let code = flags .before .before .before .before in
-    rw (vendor .put-u322 .ensures, size .put-u24 .ensures, flags .put-u8 .ensures, code .put-u32 .ensures)
+    let code = size .before .before .before .before in
+    rw (vendor .put-u322 .ensures, size .put-u8-u24 .ensures, code .put-u32 .ensures)
     (vendor-put (start size .args .r) _ _ (vendor-there (vendor .before .before)) (start size .pre .0))
 
 pub put-head-spec : {M : Type 1} → statement M
 put-head-spec =
     tie.close
     (tie.spec
-    (λ c κs. search needs)
     (λ c κs. search needs)
     (λ c κs. search needs)
     (λ c κs. tt)

@@ -1,31 +1,16 @@
--- `put_u32` meets its contract: the four stores are those of the bytes that `to_be_u32` gives, and a store changes no length.
-use native.Mathlib.Numerals.{towards-suc}
+-- `put_u32` meets its contract: the four bytes that are lent come back as those of the number.
+use Prim.Native.Nat.{_+_, _-_}
 use native.Mathlib.Omega.{arith}
-use lib.ListN.{length-set}
+use denote.Ref.{now}
 use borrow.Author.Needs.{needs}
-use Rattle.octets.specs.Octets.{octets}
+use Rattle.octets.proofs.LastFirst.{word-put-at}
 use Rattle.writer.proofs.emit.put_u32.Statement.{statement}
 use Rattle.writer.proofs.emit.put_u32.Tie as tie
 
 returns : tie.Need-returns
-unfolding octets
-returns c = rw (c .to-be-u32 .ensures) (simp towards-suc)
+returns c =
+    let a = c .before .before .before .before .before .args in
+    word-put-at _ (now (a .out)) (a .at) (a .at + 4 - a .at) _ (omega arith) (omega arith) (c .before .before .put-u32 .ensures)
 
 pub put-u32-spec : {M : Type 1} → statement M
-put-u32-spec =
-    tie.close
-    (tie.spec
-    (λ c κs. tt)
-    (λ c. search needs)
-    (λ c. search needs)
-    (λ c. search needs)
-    (λ c. search needs)
-    (λ c. simp length-set (omega arith))
-    (λ c. search needs)
-    (λ c. search needs)
-    (λ c. simp length-set (omega arith))
-    (λ c. search needs)
-    (λ c. search needs)
-    (λ c. simp length-set (omega arith))
-    (λ c. search needs)
-    returns)
+put-u32-spec = tie.close (tie.spec (λ c. search needs) (λ c. search needs) (λ c. search needs) (λ c. search needs) (λ c κs. tt) (λ c. search needs) returns)
