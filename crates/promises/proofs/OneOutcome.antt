@@ -14,7 +14,7 @@ use Rattle.record.specs.Record.{Record}
 use Rattle.reader.specs.declared.Reader.{Reader}
 use Rattle.writer.specs.declared.Fields.{Fields}
 use Rattle.radius_writer.specs.declared.Fields as packet
-use Rattle.promises.proofs.OneOutcome.Calls.{Slice, RecordPut, Clear, ParseAvps, Parse, ParseAvp, ParseBy, ParseAvpBy, Dump, Write, TandrekilyMessage, TandrekilyHeader, TandrekilyAvp, TandrekilyMessageBy, TandrekilyAvpBy, TandrekilyFind, TandrekilyNext, TandrekilyWrite, TandrekilyCompare, ParsePacket, WritePacket, TandrekilyRadius, TandrekilyRadiusWrite}
+use Rattle.promises.proofs.OneOutcome.Calls.{Slice, PutWord, RecordPut, PutFound, Clear, ParseAvps, Parse, ParseAvp, ParseBy, ParseAvpBy, Dump, Write, TandrekilyMessage, TandrekilyHeader, TandrekilyAvp, TandrekilyMessageBy, TandrekilyAvpBy, TandrekilyFind, TandrekilyNext, TandrekilyWrite, TandrekilyCompare, ParsePacket, WritePacket, TandrekilyRadius, TandrekilyRadiusWrite}
 use Rattle.promises.proofs.OneOutcome.ByHand.{ReaderNew, ReaderNext, ReaderFind}
 use Rattle.octets.proofs.be_u16.Reads as be-u16
 use Rattle.octets.proofs.be_u24.Reads as be-u24
@@ -25,10 +25,12 @@ use Rattle.octets.proofs.to_be_u24.Reads as to-be-u24
 use Rattle.octets.proofs.to_be_u32.Reads as to-be-u32
 use Rattle.octets.proofs.to_be_u64.Reads as to-be-u64
 use Rattle.octets.proofs.at_hand.length.Reads as length
+use Rattle.octets.proofs.word.be_u32.Reads as word-be-u32
 use Rattle.rfc3629.proofs.is_utf8_1.Reads as is-utf8-1
 use Rattle.rfc3629.proofs.is_utf8_2.Reads as is-utf8-2
 use Rattle.rfc3629.proofs.is_utf8_3.Reads as is-utf8-3
 use Rattle.rfc3629.proofs.is_utf8_4.Reads as is-utf8-4
+use Rattle.rfc3629.proofs.is_tail.Reads as is-tail
 use Rattle.utf8.proofs.check.Reads as check
 use Rattle.utf8.proofs.is_utf8.Reads as is-utf8
 use Rattle.refusal.proofs.Refusal.number.Reads as number
@@ -74,6 +76,7 @@ use Rattle.reader.proofs.find.Reads as find
 use Rattle.record.proofs.Record.get.Reads as record-get
 use Rattle.record.proofs.Record.read.Reads as record-read
 use Rattle.value.proofs.Value.new.Reads as value-new
+use Rattle.value.proofs.Value.new_known.Reads as value-new-known
 use Rattle.value.proofs.Value.kind.Reads as value-kind
 use Rattle.value.proofs.Value.number.Reads as value-number
 use Rattle.count.proofs.allowed.Reads as allowed
@@ -151,6 +154,12 @@ to-be-u64-one κs a r r′ s p q = p ∙ sym q
 length-one : Single length.Post
 length-one κs a r r′ s p q = p ∙ sym q
 
+word-be-u32-one : Single word-be-u32.Post
+word-be-u32-one κs a r r′ s p q = p ∙ sym q
+
+put-word-one : (κs : Lfts 1) (out : Slice) (v : ℕ) (after after′ : Slice) → PutWord κs out v after → PutWord κs out v after′ → now after ≡ now after′
+put-word-one κs out v after after′ p q = p ∙ sym q
+
 -- ---- rfc3629 and utf8
 
 is-utf8-1-one : Single is-utf8-1.Post
@@ -164,6 +173,9 @@ is-utf8-3-one κs a r r′ s p q = p ∙ sym q
 
 is-utf8-4-one : Single is-utf8-4.Post
 is-utf8-4-one κs a r r′ s p q = p ∙ sym q
+
+is-tail-one : Single is-tail.Post
+is-tail-one κs a r r′ s p q = p ∙ sym q
 
 check-one : Single check.Post
 check-one κs a r r′ s p q = p ∙ sym q
@@ -329,6 +341,10 @@ find-one κs a r r′ s p q = reader-answers.answer-of-injective r r′ (p ∙ s
 record-put-one : (κs : Lfts 1) (self : Record) (store : Slice) → Settled (RecordPut κs self store)
 record-put-one κs self store r r′ after after′ p q = (p .0 ∙ sym (q .0), p .1 ∙ sym (q .1))
 
+put-found-one : (κs : Lfts 1) (store : Slice) (kind errors value : ℕ) (after after′ : Slice) → PutFound κs store kind errors value after
+    → PutFound κs store kind errors value after′ → now after ≡ now after′
+put-found-one κs store kind errors value after after′ p q = p ∙ sym q
+
 clear-one : (κs : Lfts 1) (store after after′ : Slice) → Clear κs store after → Clear κs store after′ → now after ≡ now after′
 clear-one κs store after after′ p q = p ∙ sym q
 
@@ -342,6 +358,9 @@ record-read-one κs a r r′ s p q = p ∙ sym q
 
 value-new-one : Single value-new.Post
 value-new-one κs a r r′ s p q = one-value _ _ r r′ p q
+
+value-new-known-one : Single value-new-known.Post
+value-new-known-one κs a r r′ s p q = one-value _ _ r r′ p q
 
 value-kind-one : Single value-kind.Post
 value-kind-one κs a r r′ s p q = p ∙ sym q

@@ -12,7 +12,9 @@ use Rattle.utf8.specs.declared.Utf8.{Utf8}
 use Rattle.utf8.proofs.check.Reads as check
 use Rattle.utf8.proofs.is_utf8.Reads as is-utf8
 use Rattle.record.specs.Record.{Record}
+use Rattle.octets.proofs.word.put_u32.Reads as put-word
 use Rattle.record.proofs.Record.put.Reads as put
+use Rattle.record.proofs.Record.put_found.Reads as put-found
 use Rattle.record.proofs.clear.Reads as clear
 use Rattle.avps.specs.declared.Filled.{Filled}
 use Rattle.avps.proofs.parse_avps.Reads as parse-avps
@@ -60,8 +62,15 @@ Check κs s r = check.Post κs (s, tt) r (s, tt)
 abbrev pub IsUtf8 : Lfts 1 → Slice → Bool → Type 0
 IsUtf8 κs s r = is-utf8.Post κs (s, tt) r (s, tt)
 
+abbrev pub PutWord : Lfts 1 → Slice → ℕ → Slice → Type 0
+PutWord κs out v out′ = put-word.Post κs (out, (v, tt)) tt (out′, (v, tt))
+
 abbrev pub RecordPut : Lfts 1 → Record → Slice → Bool → Slice → Type 0
 RecordPut κs self store r store′ = put.Post κs (self, (store, tt)) r (self, (store′, tt))
+
+abbrev pub PutFound : Lfts 1 → Slice → ℕ → ℕ → ℕ → Slice → Type 0
+PutFound κs store kind errors value store′ =
+    put-found.Post κs (store, (kind, (errors, (value, tt)))) tt (store′, (kind, (errors, (value, tt))))
 
 abbrev pub Clear : Lfts 1 → Slice → Slice → Type 0
 Clear κs store store′ = clear.Post κs (store, tt) tt (store′, tt)
