@@ -1,81 +1,16 @@
 // As in the library, nothing is written before all is known to be good, so the attributes and the records are gone over twice.
 #define _DEFAULT_SOURCE
 #include "by_hand.h"
+#include "numbers.h"
 #include "tandrekily.h"
-#include <endian.h>
-#include <string.h>
+#include "utf8.h"
 
 enum { FRONT = 4, HEADER = 20, HEAD = TANDREKILY_ATTRIBUTE_HEAD, RECORD = TANDREKILY_RECORD_SIZE, TYPES = 64, NUMBER = 4 };
-
-// ---- numbers
-
-// As one load or store each: of shifts the compiler makes single bytes here.
-static uint32_t get_32(const uint8_t *at) {
-    uint32_t n;
-    memcpy(&n, at, sizeof n);
-    return be32toh(n);
-}
-
-static uint64_t get_64(const uint8_t *at) {
-    uint64_t n;
-    memcpy(&n, at, sizeof n);
-    return be64toh(n);
-}
-
-static void put_32(uint8_t *at, uint32_t n) {
-    n = htobe32(n);
-    memcpy(at, &n, sizeof n);
-}
-
-static void put_64(uint8_t *at, uint64_t n) {
-    n = htobe64(n);
-    memcpy(at, &n, sizeof n);
-}
 
 static void answer(uint64_t *result, uint64_t number, uint64_t amount) {
     memset(result, 0, TANDREKILY_RADIUS_RESULT * sizeof *result);
     result[TANDREKILY_NUMBER] = number;
     result[TANDREKILY_AMOUNT] = amount;
-}
-
-// ---- text
-
-// How many bytes the character at the front has, by the table of RFC 3629, section 4, or 0 where there is none.
-static size_t character(const uint8_t *at, size_t left) {
-    uint8_t low = 0x80, high = 0xBF;
-    size_t size;
-    if (at[0] < 0xC2 || at[0] > 0xF4) return 0;
-    if (at[0] < 0xE0) size = 2;
-    else if (at[0] < 0xF0) size = 3;
-    else size = 4;
-    if (left < size) return 0;
-    if (at[0] == 0xE0) low = 0xA0;
-    if (at[0] == 0xED) high = 0x9F;
-    if (at[0] == 0xF0) low = 0x90;
-    if (at[0] == 0xF4) high = 0x8F;
-    if (at[1] < low || at[1] > high) return 0;
-    for (size_t i = 2; i < size; i++)
-        if ((at[i] & 0xC0) != 0x80) return 0;
-    return size;
-}
-
-// Eight bytes of ASCII are passed at once.
-static size_t well_formed(const uint8_t *text, size_t length) {
-    size_t at = 0;
-    while (at < length) {
-        uint64_t eight;
-        if (length - at >= sizeof eight) {
-            memcpy(&eight, text + at, sizeof eight);
-            if ((eight & 0x8080808080808080) == 0) {
-                at += sizeof eight;
-                continue;
-            }
-        }
-        size_t size = text[at] < 0x80 ? 1 : character(text + at, length - at);
-        if (size == 0) return at;
-        at += size;
-    }
-    return length;
 }
 
 // ---- reading

@@ -2,8 +2,8 @@
 #include "messages.h"
 #include <string.h>
 
-enum { HEADER = 20, HEAD = 8, NUMBER = 12, LONG_NUMBER = 16, MANDATORY = 0x40 };
-enum { FAILED_AVP = 279, PROXY_INFO = 284, VENDOR_SPECIFIC_APPLICATION_ID = 260 };
+enum { HEADER = 20, HEAD = 8, HEAD_WITH_VENDOR = 12, NUMBER = 12, LONG_NUMBER = 16, VENDOR = 0x80, MANDATORY = 0x40 };
+enum { FAILED_AVP = 279, ERROR_MESSAGE = 281, PROXY_INFO = 284, VENDOR_SPECIFIC_APPLICATION_ID = 260, THREE_GPP = 10415 };
 enum { CC_MONEY = 413, REQUESTED_SERVICE_UNIT = 437, SUBSCRIPTION_ID = 443, UNIT_VALUE = 445, USED_SERVICE_UNIT = 446 };
 enum { MULTIPLE_SERVICES_CREDIT_CONTROL = 456 };
 
@@ -18,11 +18,14 @@ static uint8_t *head(uint8_t *at, uint32_t code, uint8_t flags, size_t length) {
     return put(at, (uint32_t)length, 3);
 }
 
-static uint8_t *text(uint8_t *at, uint32_t code, const char *data, size_t length) {
-    at = head(at, code, MANDATORY, HEAD + length);
+static uint8_t *padded(uint8_t *at, const char *data, size_t length) {
     memcpy(at, data, length);
     memset(at + length, 0, 3);
     return at + (length + 3) / 4 * 4;
+}
+
+static uint8_t *text(uint8_t *at, uint32_t code, const char *data, size_t length) {
+    return padded(head(at, code, MANDATORY, HEAD + length), data, length);
 }
 
 #define TEXT(at, code, data) text(at, code, data, sizeof data - 1)
@@ -177,6 +180,47 @@ size_t message_texts(uint8_t *out, const char *data, size_t length) {
     static const uint32_t codes[] = {263, 264, 296, 1, 282, 293, 281, 269, 294, 25, 50, 280, 292, 235, 263, 1};
     uint8_t *at = start_any(out);
     for (size_t i = 0; i < sizeof codes / sizeof *codes; i++) at = text(at, codes[i], data, length);
+    return finish(out, at);
+}
+
+size_t message_empty(uint8_t *out) {
+    return finish(out, start_any(out));
+}
+
+size_t message_text(uint8_t *out, const char *data, size_t length, size_t times) {
+    uint8_t *at = head(start_any(out), ERROR_MESSAGE, MANDATORY, HEAD + length * times);
+    for (; times > 0; times--, at += length) memcpy(at, data, length);
+    while ((at - out) % 4 != 0) *at++ = 0;
+    return finish(out, at);
+}
+
+size_t message_numbers(uint8_t *out, size_t numbers) {
+    static const uint32_t codes[] = {485, 259, 258, 85, 278, 268, 27, 266};
+    uint8_t *at = start_any(out);
+    for (size_t i = 0; i < numbers; i++) at = number(at, codes[i % (sizeof codes / sizeof *codes)], (uint32_t)i);
+    return finish(out, at);
+}
+
+// AVPs of 3GPP (TS 29.061, section 16.4.7, and TS 29.229, section 6.3), with data as they are seen.
+static const struct {
+    uint32_t code;
+    const char *data;
+    size_t length;
+} of_vendor[] = {
+    {1, "262011234567890", 15},             // 3GPP-IMSI
+    {21, "\x06", 1},                        // 3GPP-RAT-Type
+    {602, "sip:scscf.ims.example.net", 25}, // Server-Name
+    {629, "\0\0\0\x01", 4},                // Feature-List-ID
+    {701, "\x94\x71\x11\x32\x54\x76", 6},   // MSISDN
+};
+
+size_t message_vendors(uint8_t *out, size_t avps) {
+    uint8_t *at = start_any(out);
+    for (size_t i = 0; i < avps; i++) {
+        size_t n = i % (sizeof of_vendor / sizeof *of_vendor), length = of_vendor[n].length;
+        at = head(at, of_vendor[n].code, VENDOR | MANDATORY, HEAD_WITH_VENDOR + length);
+        at = padded(put(at, THREE_GPP, 4), of_vendor[n].data, length);
+    }
     return finish(out, at);
 }
 

@@ -21,6 +21,18 @@ size_t message_credit(uint8_t *out);
 // One text in sixteen AVPs, whose codes are of all kinds of text.
 size_t message_texts(uint8_t *out, const char *data, size_t length);
 
+// No AVP.
+size_t message_empty(uint8_t *out);
+
+// One text, so many times over, in one AVP.
+size_t message_text(uint8_t *out, const char *data, size_t length, size_t times);
+
+// So many Unsigned32.
+size_t message_numbers(uint8_t *out, size_t numbers);
+
+// So many AVPs of a vendor, with data of five kinds in turn.
+size_t message_vendors(uint8_t *out, size_t avps);
+
 // Nothing but AVPs without data, as many as `most` bytes hold.
 size_t message_small(uint8_t *out, size_t most);
 

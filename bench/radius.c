@@ -4,6 +4,7 @@
 // What both answer and write must be the same, to the last byte that was lent; else it exits with 1.
 #include "by_hand.h"
 #include "packets.h"
+#include "random.h"
 #include "tandrekily.h"
 #include <inttypes.h>
 #include <stdio.h>
@@ -89,26 +90,6 @@ static void measure(bool library, bool writing, bool small, int times) {
 }
 
 // ---- many packets and tables, compared
-
-// A generator of 64 bits (xorshift).
-static uint64_t random_64(void) {
-    static uint64_t state = 0x9E3779B97F4A7C15;
-    state ^= state << 13;
-    state ^= state >> 7;
-    state ^= state << 17;
-    return state;
-}
-
-static size_t below(size_t bound) {
-    return (size_t)(random_64() % bound);
-}
-
-// Half of the bytes are letters, or few texts would be well-formed; a fourth are at an end of a range of RFC 3629's syntax.
-static uint8_t any_byte(void) {
-    static const uint8_t ends[] = {0x7F, 0x80, 0x8F, 0x90, 0x9F, 0xA0, 0xBF, 0xC1, 0xC2, 0xDF, 0xE0, 0xED, 0xEF, 0xF0, 0xF4, 0xF5};
-    if (below(2) == 0) return (uint8_t)('a' + below(26));
-    return below(2) == 0 ? ends[below(sizeof ends)] : (uint8_t)random_64();
-}
 
 // Attributes that cover the packet. Now and then a byte or the length is changed, or some of it is absent.
 static size_t any_packet(void) {
