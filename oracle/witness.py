@@ -251,8 +251,9 @@ def comparisons():
         line("compare", *words, number, order)
 
 
-def texts(rows):
-    """Both ends of each range and one outside, the other bytes of the row at their lowest and then at their highest: alone, and between letters."""
+def texts(rows, order):
+    """Both ends of each range and one outside, the other bytes of the row at their lowest and then at their highest: alone, and between letters.
+    Each with what its value is: text, or Unhandled where it broke."""
     octets = re.compile(b"(?:%s)*" % b"|".join(b"".join(b"[\\x%02x-\\x%02x]" % r for r in row) for row in rows))
     for row in rows:
         for at, (low, high) in enumerate(row):
@@ -261,7 +262,8 @@ def texts(rows):
                     if 0 <= b <= 255:
                         text = bytes((*others[:at], b, *others[at + 1 :]))
                         for whole in (text, b"a" + text + b"b"):
-                            line("utf8", octets.fullmatch(whole) is not None, octets.match(whole).end(), *whole)
+                            good = octets.fullmatch(whole) is not None
+                            line("utf8", good, octets.match(whole).end(), order.index("UTF8String" if good else "Unhandled"), *whole)
 
 
 def library():
@@ -307,7 +309,7 @@ def main():
     types(rfc2865_text, rfc2866_text, rust_text)
     flags(rfc_text)
     numbers(time_starts(rfc4330_text))
-    texts(utf8_rows(rfc3629_text))
+    texts(utf8_rows(rfc3629_text), rust_kinds(rust_text)[0])
     library()
     packets()
 

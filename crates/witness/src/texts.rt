@@ -1,11 +1,15 @@
 // Texts at both ends of each range of RFC 3629, section 4, and one outside: each byte of a row in turn, while the others stand at their
 // lowest and then at their highest; alone, and between letters. oracle/witness.py makes the same texts from the RFC's own lines.
 use crate::print;
+use record::kinds::UTF8_STRING;
+use value::Value;
 
 fn utf8(text: &[u8]) {
+    let read = Value::new(false, UTF8_STRING, text);
     print::label(b"utf8");
     print::bit(tandrekily::tandrekily_is_utf8(text));
     print::number(tandrekily::tandrekily_utf8(text) as u64);
+    print::number(read.value.kind() as u64);
     print::bytes(text);
     print::end();
 }
