@@ -79,7 +79,7 @@ fn group_before(first: usize) -> u32
 }
 
 // The records of the run `s`, which stands at `place` of the input; the first has the index `first`. Of the levels `left` remain,
-// its own among them.
+// its own among them. Where `whole` says so every group tiles, and none is asked.
 pub(super) fn read_run(
     d: Dictionary,
     whole: bool,
@@ -141,6 +141,7 @@ fn read_avp(
     let to = a.length;
     let pads = known::pads(s, a);
     let own = own_errors(a, pads);
+    // before the value, so that its fields need not live through that
     own_record(a, place, left, pads, parent).put(&mut store[..Record::SIZE]);
     let value = read_value(
         d,
@@ -189,6 +190,7 @@ fn read_value(
     let value = read.value;
     let kind = value.kind();
     if kind == GROUPED {
+        // parts, since a slice that is passed on whole is kept in memory
         let members = read_run(
             d,
             whole,

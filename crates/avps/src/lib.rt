@@ -36,7 +36,8 @@ pub enum Filled {
 // A record has four bytes for a place.
 const LAST_PLACE: u32 = 0xffff_ffff;
 
-// Fills the store with the records of the run `s`, which stands at `place`, and with zero after them. Answers their error flags.
+// Fills the store with the records of the run `s`, which stands at `place`, and with zero after them. Answers their error flags. Where
+// `whole` says so every group tiles.
 fn fill_store(
     d: Dictionary,
     whole: bool,
@@ -76,6 +77,7 @@ pub fn parse_avps(
             if store.len() / Record::SIZE < records {
                 return Filled::Refused(Refusal::NoRecords(records));
             }
+            // as many records as headers tried: every group tiles (rfc6733/proofs/AllTile)
             let errors = fill_store(d, records == tried, kinds, s, place as usize, store);
             Filled::Accepted(Counts {
                 errors,
