@@ -31,6 +31,7 @@ use Rattle.rfc3629.proofs.is_utf8_2.Reads as is-utf8-2
 use Rattle.rfc3629.proofs.is_utf8_3.Reads as is-utf8-3
 use Rattle.rfc3629.proofs.is_utf8_4.Reads as is-utf8-4
 use Rattle.rfc3629.proofs.is_tail.Reads as is-tail
+use Rattle.ascii.proofs.run.Reads as ascii-run
 use Rattle.utf8.proofs.check.Reads as check
 use Rattle.utf8.proofs.is_utf8.Reads as is-utf8
 use Rattle.refusal.proofs.Refusal.number.Reads as number
@@ -160,7 +161,7 @@ word-be-u32-one κs a r r′ s p q = p ∙ sym q
 put-word-one : (κs : Lfts 1) (out : Slice) (v : ℕ) (after after′ : Slice) → PutWord κs out v after → PutWord κs out v after′ → now after ≡ now after′
 put-word-one κs out v after after′ p q = p ∙ sym q
 
--- ---- rfc3629 and utf8
+-- ---- rfc3629, ascii and utf8
 
 is-utf8-1-one : Single is-utf8-1.Post
 is-utf8-1-one κs a r r′ s p q = p ∙ sym q
@@ -176,6 +177,9 @@ is-utf8-4-one κs a r r′ s p q = p ∙ sym q
 
 is-tail-one : Single is-tail.Post
 is-tail-one κs a r r′ s p q = p ∙ sym q
+
+ascii-run-one : Single ascii-run.Post
+ascii-run-one κs a r r′ s p q = p ∙ sym q
 
 check-one : Single check.Post
 check-one κs a r r′ s p q = p ∙ sym q

@@ -11,13 +11,13 @@ use lib.ListN.{length, drop, length-drop, drop-of-length-le}
 use lib.Seq.{drop-drop}
 use borrow.Author.Tests.{eq-eqb, ne-eqb}
 use Rattle.rfc3629.specs.Utf8.{charSize, validUpTo}
+use Rattle.ascii.specs.Ascii.{asciiRun}
 use Rattle.utf8.specs.Checked.{checked}
 use Rattle.utf8.specs.declared.Utf8.the-variants.{WellFormed, ValidUpTo}
-use Rattle.utf8.specs.Ascii.{asciiRun}
 use Rattle.rfc3629.proofs.Grammar.{char-there}
 use Rattle.rfc3629.proofs.Prefixes.{up-to-none, up-to-broken, up-to-step, all-of-it}
-use Rattle.utf8.proofs.Runs.{isAscii, run-behind}
 use Rattle.rfc3629.proofs.Lines.{size-is}
+use Rattle.ascii.proofs.Runs.{isAscii, run-behind}
 
 -- whole characters were passed up to `at`: the text is valid that far, and as far again as what is left is
 pub record Passed (s : List ℕ) (at : ℕ) : Type 0 where

@@ -1,4 +1,3 @@
-mod Runs
 mod Characters
 mod FirstByte
 pub mod Answers

@@ -1,6 +1,5 @@
 // Is a text well-formed UTF-8, and if not, up to where? The byte ranges of RFC 3629, section 4, decide, and the crate rfc3629 has them; here a
-// text is read by them from the front, and ascii.rt and first_byte.rt are for speed. This crate knows nothing of Diameter.
-mod ascii;
+// text is read by them from the front, and first_byte.rt and the crate ascii are for speed. This crate knows nothing of Diameter.
 mod first_byte;
 
 ghost use mathlib.Core.Path.{_≡_};

@@ -10,9 +10,9 @@ use borrow.Author.Needs.{needs}
 use borrow.Author.Tests.{leb-true}
 use Rattle.octets.proofs.Lists.{rest}
 use Rattle.rfc3629.specs.Utf8.{charSize}
-use Rattle.utf8.specs.Ascii.{asciiRun}
+use Rattle.ascii.specs.Ascii.{asciiRun}
+use Rattle.ascii.proofs.Runs.{first-left}
 use Rattle.utf8.proofs.Characters.{Passed, ended, stuck, step, run-passed}
-use Rattle.utf8.proofs.Runs.{first-left}
 use Rattle.utf8.proofs.check.Statement.{statement}
 use Rattle.utf8.proofs.check.Tie as tie
 

@@ -8,10 +8,10 @@ use lib.ListN.{length, drop}
 use denote.Ref.{now}
 use borrow.Author.Needs.{needs}
 use Rattle.octets.proofs.Lists.{rest}
-use Rattle.utf8.specs.Ascii.{asciiRun}
-use Rattle.utf8.proofs.Runs.{Left, passed, first-left, none-left, ended}
-use Rattle.utf8.proofs.ascii.run.Statement.{statement}
-use Rattle.utf8.proofs.ascii.run.Tie as tie
+use Rattle.ascii.specs.Ascii.{asciiRun}
+use Rattle.ascii.proofs.Runs.{Left, passed, first-left, none-left, ended}
+use Rattle.ascii.proofs.run.Statement.{statement}
+use Rattle.ascii.proofs.run.Tie as tie
 
 abbrev Inv-loop : tie.InvT-loop
 Inv-loop s at₀ at = Left s at

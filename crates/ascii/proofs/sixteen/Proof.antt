@@ -2,9 +2,9 @@
 use native.Mathlib.Omega.{arith}
 use denote.Ref.{now}
 use borrow.Author.Needs.{needs}
-use Rattle.utf8.proofs.Runs.{in-parts, from-there, too-short}
-use Rattle.utf8.proofs.ascii.sixteen.Statement.{statement}
-use Rattle.utf8.proofs.ascii.sixteen.Tie as tie
+use Rattle.ascii.proofs.Runs.{in-parts, from-there, too-short}
+use Rattle.ascii.proofs.sixteen.Statement.{statement}
+use Rattle.ascii.proofs.sixteen.Tie as tie
 
 returns-2 : tie.Need-returns-2
 returns-2 c =

@@ -15,7 +15,7 @@ use borrow.Author.Tests.{le-leb, lt-leb, leb-true, leb-false}
 use Rattle.octets.proofs.Lists.{rest}
 use Rattle.rfc3629.specs.Syntax.{UTF8-1}
 use Rattle.rfc3629.specs.Utf8.{matchesAny}
-use Rattle.utf8.specs.Ascii.{asciiRun}
+use Rattle.ascii.specs.Ascii.{asciiRun}
 
 abbrev pub isAscii : ℕ → Bool
 isAscii b = matchesAny UTF8-1 (b ∷ [])

@@ -1,11 +1,11 @@
-// What was added for speed, since most texts are mostly ASCII. A byte of UTF8-1 is a character, so to pass a run of them, thirty-two at
-// once and then four, changes no answer.
+// How many bytes of ASCII are at the front of a text, for speed, since most texts are mostly ASCII. A byte of UTF8-1 is a character, so to pass
+// a run of them, thirty-two at once and then four, changes no answer. This crate knows nothing of Diameter.
 ghost use mathlib.Core.Path.{_≡_};
 ghost use lib.Dec.{leb};
-ghost use Rattle.utf8.specs.Ascii.{asciiRun};
+ghost use Rattle.ascii.specs.Ascii.{asciiRun};
 
-// How many bytes at the front are UTF8-1.
-pub(super) fn run(s: &[u8]) -> usize
+/// How many bytes at the front are UTF8-1.
+pub fn run(s: &[u8]) -> usize
     ensures { λ r. ⌜ r ≡ asciiRun (now (s .entry)) ⌝ }
 {
     let mut at: usize = 0;

@@ -7,9 +7,9 @@ use denote.Ref.{now}
 use borrow.Author.Needs.{needs}
 use Rattle.octets.specs.Octets.{octets}
 use Rattle.octets.proofs.Numbers.{written-read}
-use Rattle.utf8.proofs.Runs.{one-by-one, too-short}
-use Rattle.utf8.proofs.ascii.four.Statement.{statement}
-use Rattle.utf8.proofs.ascii.four.Tie as tie
+use Rattle.ascii.proofs.Runs.{one-by-one, too-short}
+use Rattle.ascii.proofs.four.Statement.{statement}
+use Rattle.ascii.proofs.four.Tie as tie
 
 bytes-are : (c : tie.After-to-be-u32) → c .to-be-u32 .result ≡ take 4 (now (c .before .before .before .before .args .s))
 bytes-are c =
