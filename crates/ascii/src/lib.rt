@@ -48,7 +48,7 @@ fn four(s: &[u8]) -> bool
     if s.len() < 4 {
         return false;
     }
-    let b = octets::to_be_u32(octets::word::be_u32(s));
+    let b = octets::to_be_u32(word::be_u32(s));
     rfc3629::is_utf8_1(b[0])
         & rfc3629::is_utf8_1(b[1])
         & rfc3629::is_utf8_1(b[2])

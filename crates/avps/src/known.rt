@@ -13,7 +13,7 @@ fn word(s: &[u8], at: usize) -> u32
     requires { ⌜ at + 4 ≤ length (now s) ⌝ }
     ensures { λ r. ⌜ r ≡ be 4 (now (s .entry)) at ⌝ }
 {
-    octets::word::be_u32(&s[at..at + 4])
+    word::be_u32(&s[at..at + 4])
 }
 
 // Present only with the vendor bit.

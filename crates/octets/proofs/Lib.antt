@@ -2,8 +2,6 @@ pub mod Layouts
 pub mod Lists
 pub mod Numbers
 pub mod Words
-pub mod Turned
-pub mod LastFirst
 pub mod Runs
 pub mod Availability
 pub mod Held

@@ -1,27 +1,12 @@
--- Four bytes that were read the lowest first and turned round: they are the number of these bytes, the highest first. Writing gives back what
--- was read, so the bytes of the first number are the four, the last first. A part of a word is its quotient or its remainder, and its
--- end is moved to the front by a shift.
+-- A part of a word of four bytes is its quotient or its remainder, and its end is moved to the front by a shift.
 use Prim.Native.Nat.{ℕ, zero, suc, _+_, _-_, _*_, _/_, _%_, _^_, _≤_}
 use mathlib.Core.Path.{_≡_, ap, _∙_}
-use mathlib.Core.List.{List, [], _∷_}
+use mathlib.Core.List.{List}
 use native.Mathlib.Nat.{add-assoc}
 use native.Mathlib.Omega.{arith}
 use lib.ListN.{length, getD, drop, List·getD-eq-default}
 use lib.Seq.{getD-drop}
-use Rattle.octets.specs.Octets.{be, octets, Bytes, Reads}
-use Rattle.octets.proofs.Numbers.{written-read}
-use Rattle.octets.specs.Word.{lastFirst}
-
-module _ (s : List ℕ) where
-  last-first-bytes : Bytes s → Bytes (lastFirst s)
-  last-first-bytes h zero = h 3
-  last-first-bytes h (suc zero) = h 2
-  last-first-bytes h (suc (suc zero)) = h 1
-  last-first-bytes h (suc (suc (suc zero))) = h 0
-  last-first-bytes h (suc (suc (suc (suc i)))) = omega arith
-
-  pub turned-are : Bytes s → (low : ℕ) → Reads 4 (lastFirst s) low → octets 4 low ≡ lastFirst s
-  turned-are h low l = ap (octets 4) (l .is) ∙ written-read 4 (lastFirst s) 0 (omega arith) (last-first-bytes h)
+use Rattle.octets.specs.Octets.{be, Bytes}
 
 -- ---- the parts of a word
 

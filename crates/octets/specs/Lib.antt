@@ -1,4 +1,3 @@
 pub mod Octets
 pub mod Run
 pub mod AtHand
-pub mod Word

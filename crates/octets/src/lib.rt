@@ -1,7 +1,6 @@
 // Numbers in bytes, the highest byte first: read and written by value, so that no caller has to check a length first.
 // This crate knows nothing of Diameter.
 pub mod at_hand;
-pub mod word;
 
 ghost use mathlib.Core.Path.{_≡_};
 ghost use mathlib.Core.List.{[], _∷_};

@@ -25,7 +25,7 @@ use Rattle.octets.proofs.to_be_u24.Reads as to-be-u24
 use Rattle.octets.proofs.to_be_u32.Reads as to-be-u32
 use Rattle.octets.proofs.to_be_u64.Reads as to-be-u64
 use Rattle.octets.proofs.at_hand.length.Reads as length
-use Rattle.octets.proofs.word.be_u32.Reads as word-be-u32
+use Rattle.word.proofs.be_u32.Reads as word-be-u32
 use Rattle.rfc3629.proofs.is_utf8_1.Reads as is-utf8-1
 use Rattle.rfc3629.proofs.is_utf8_2.Reads as is-utf8-2
 use Rattle.rfc3629.proofs.is_utf8_3.Reads as is-utf8-3
@@ -154,6 +154,8 @@ to-be-u64-one κs a r r′ s p q = p ∙ sym q
 
 length-one : Single length.Post
 length-one κs a r r′ s p q = p ∙ sym q
+
+-- ---- word
 
 word-be-u32-one : Single word-be-u32.Post
 word-be-u32-one κs a r r′ s p q = p ∙ sym q

@@ -55,7 +55,7 @@ fn put_u32(store: &mut [u8], at: usize, v: u32)
     requires { ⌜ at + 4 ≤ length (now store) ⌝ }
     ensures { λ _. ⌜ now (store .exit) ≡ sets (now (store .entry)) at (octets 4 v) ⌝ }
 {
-    octets::word::put_u32(&mut store[at..at + 4], v);
+    word::put_u32(&mut store[at..at + 4], v);
 }
 
 fn put_u64(store: &mut [u8], at: usize, v: u64)
@@ -93,7 +93,7 @@ fn word(table: &[u8], at: usize) -> u32
     requires { ⌜ at + 4 ≤ length (now table) ⌝ }
     ensures { λ r. ⌜ r ≡ be 4 (now (table .entry)) at ⌝ }
 {
-    octets::word::be_u32(&table[at..at + 4])
+    word::be_u32(&table[at..at + 4])
 }
 
 /// Sets every byte to zero.

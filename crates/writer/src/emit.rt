@@ -25,7 +25,7 @@ pub(super) fn put_u32(out: &mut [u8], at: usize, v: u32)
     requires { ⌜ at + 4 ≤ length (now out) ⌝ }
     ensures { λ _. ⌜ now (out .exit) ≡ sets (now (out .entry)) at (octets 4 v) ⌝ }
 {
-    octets::word::put_u32(&mut out[at..at + 4], v);
+    word::put_u32(&mut out[at..at + 4], v);
 }
 
 // A byte and then three bytes, as one number, since that is one store.
@@ -42,7 +42,7 @@ fn copy(src: &[u8], dst: &mut [u8])
     ensures { λ _. ⌜ now (dst .exit) ≡ over (now (src .entry)) (now (dst .entry)) ⌝ }
 {
     if src.len() == 4 {
-        put_u32(dst, 0, octets::word::be_u32(src));
+        put_u32(dst, 0, word::be_u32(src));
         return;
     }
     bytes::copy(src, dst);

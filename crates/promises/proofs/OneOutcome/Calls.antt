@@ -12,7 +12,7 @@ use Rattle.utf8.specs.declared.Utf8.{Utf8}
 use Rattle.utf8.proofs.check.Reads as check
 use Rattle.utf8.proofs.is_utf8.Reads as is-utf8
 use Rattle.record.specs.Record.{Record}
-use Rattle.octets.proofs.word.put_u32.Reads as put-word
+use Rattle.word.proofs.put_u32.Reads as put-word
 use Rattle.record.proofs.Record.put.Reads as put
 use Rattle.record.proofs.Record.put_found.Reads as put-found
 use Rattle.record.proofs.clear.Reads as clear

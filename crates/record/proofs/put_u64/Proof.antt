@@ -5,7 +5,7 @@ use mathlib.Core.List.{List}
 use native.Mathlib.Omega.{arith}
 use lib.ListN.{length}
 use lib.Dec.{lit<}
-use Rattle.octets.proofs.LastFirst.{stored, same-length, eight-stored}
+use Rattle.word.proofs.LastFirst.{stored, same-length, eight-stored}
 use Rattle.record.proofs.put_u64.Statement.{statement}
 use Rattle.record.proofs.put_u64.Tie as tie
 

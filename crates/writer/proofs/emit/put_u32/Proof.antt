@@ -3,7 +3,7 @@ use Prim.Native.Nat.{_+_, _-_}
 use native.Mathlib.Omega.{arith}
 use denote.Ref.{now}
 use borrow.Author.Needs.{needs}
-use Rattle.octets.proofs.LastFirst.{word-put-at}
+use Rattle.word.proofs.LastFirst.{word-put-at}
 use Rattle.writer.proofs.emit.put_u32.Statement.{statement}
 use Rattle.writer.proofs.emit.put_u32.Tie as tie
 

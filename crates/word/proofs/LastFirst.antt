@@ -9,9 +9,9 @@ use lib.ListN.{length, getD, set, take, drop, length-set, length-drop}
 use lib.Seq.{sets, sets-eq, length-take-le}
 use borrow.Rule.Slice.PartMut.{putMid}
 use borrow.Author.Tests.{le-leb, lt-leb}
 use Rattle.octets.specs.Octets.{octets, over}
-use Rattle.octets.specs.Word.{putWord}
+use Rattle.word.specs.Word.{putWord}
 use Rattle.octets.proofs.Lists.{put-part}
 
 module _ (store : List ℕ) (at : ℕ) (b : List ℕ) where
   -- the store with the byte at `last` and the n before it

@@ -6,10 +6,10 @@ use native.Mathlib.Omega.{arith}
 use lib.ListN.{length, getD, List·getD-eq-default}
 use denote.Ref.{now}
 use borrow.Author.Needs.{needs}
 use Rattle.octets.specs.Octets.{be}
 use Rattle.octets.proofs.Numbers.{read-at}
-use Rattle.octets.proofs.word.short.Statement.{statement}
-use Rattle.octets.proofs.word.short.Tie as tie
+use Rattle.word.proofs.short.Statement.{statement}
+use Rattle.word.proofs.short.Tie as tie
 
 no-byte : (s : List ℕ) → length s ≡ 0 → 0 ≡ be 4 s 0
 unfolding be

@@ -4,8 +4,8 @@ ghost use mathlib.Core.Path.{_≡_};
 ghost use mathlib.Core.List.{[], _∷_, reverse};
 ghost use Prim.Native.Nat.{_≤_, _<_};
 ghost use lib.ListN.{length};
 ghost use Rattle.octets.specs.Octets.{be, octets, Reads};
-ghost use Rattle.octets.specs.Word.{lastFirst, putWord};
+ghost use Rattle.word.specs.Word.{lastFirst, putWord};
 
 const SIZE: usize = 4;
 
@@ -13,10 +13,7 @@ const SIZE: usize = 4;
 fn low_u32(a: u8, b: u8, c: u8, d: u8) -> u32
     ensures { λ r. ⌜ Reads 4 (d ∷ c ∷ b ∷ a ∷ []) r ⌝ }
 {
-    super::wide(a)
-        + super::wide(b) * 0x100
-        + super::wide(c) * 0x1_0000
-        + super::wide(d) * 0x100_0000
+    a as u32 + b as u32 * 0x100 + c as u32 * 0x1_0000 + d as u32 * 0x100_0000
 }
 
 // The first four bytes, the lowest first: the compiler makes one load of them, and does not take it apart again.
@@ -34,9 +31,9 @@ fn short(s: &[u8]) -> u32
 {
     match s.len() {
         0 => 0,
-        1 => super::be_u32(s[0], 0, 0, 0),
-        2 => super::be_u32(s[0], s[1], 0, 0),
-        _ => super::be_u32(s[0], s[1], s[2], 0),
+        1 => octets::be_u32(s[0], 0, 0, 0),
+        2 => octets::be_u32(s[0], s[1], 0, 0),
+        _ => octets::be_u32(s[0], s[1], s[2], 0),
     }
 }
 
@@ -47,16 +44,16 @@ pub fn be_u32(s: &[u8]) -> u32
     if s.len() < SIZE {
         return short(s);
     }
-    let b = super::to_be_u32(low_first(s));
-    super::be_u32(b[3], b[2], b[1], b[0])
+    let b = octets::to_be_u32(low_first(s));
+    octets::be_u32(b[3], b[2], b[1], b[0])
 }
 
 // The bytes of a number turned round.
 fn swap_u32(v: u32) -> u32
     ensures { λ r. ⌜ octets 4 r ≡ reverse (octets 4 v) ⌝ }
 {
-    let b = super::to_be_u32(v);
-    super::be_u32(b[3], b[2], b[1], b[0])
+    let b = octets::to_be_u32(v);
+    octets::be_u32(b[3], b[2], b[1], b[0])
 }
 
 /// Puts a number over the first four bytes, if there are four.
@@ -67,7 +64,7 @@ pub fn put_u32(out: &mut [u8], v: u32)
         return;
     }
     // the lowest byte first: the compiler joins such stores into one, and leaves those with the highest byte first as single bytes
-    let b = super::to_be_u32(swap_u32(v));
+    let b = octets::to_be_u32(swap_u32(v));
     out[0] = b[3];
     out[1] = b[2];
     out[2] = b[1];

@@ -1,9 +1,9 @@
 -- `swap_u32` meets its contract: it reads a number from the bytes of v, the last first, and `turned` says that these are its bytes.
 use borrow.Author.Needs.{needs}
 use Rattle.octets.specs.Octets.{octets}
-use Rattle.octets.proofs.Turned.{turned}
-use Rattle.octets.proofs.word.swap_u32.Statement.{statement}
-use Rattle.octets.proofs.word.swap_u32.Tie as tie
+use Rattle.word.proofs.Turned.{turned}
+use Rattle.word.proofs.swap_u32.Statement.{statement}
+use Rattle.word.proofs.swap_u32.Tie as tie
 
 returns : tie.Need-returns
 unfolding octets

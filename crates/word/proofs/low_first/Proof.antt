@@ -1,7 +1,7 @@
 -- `low_first` meets its contract: it is `low_u32` of the four bytes.
 use native.Mathlib.Omega.{arith}
-use Rattle.octets.proofs.word.low_first.Statement.{statement}
-use Rattle.octets.proofs.word.low_first.Tie as tie
+use Rattle.word.proofs.low_first.Statement.{statement}
+use Rattle.word.proofs.low_first.Tie as tie
 
 returns : tie.Need-returns
 returns c = c .low-u32 .ensures

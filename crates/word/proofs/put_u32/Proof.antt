@@ -1,13 +1,13 @@
--- `word::put_u32` meets its contract: the bytes of the swapped number, the last first, are those of v, and a store changes no length.
+-- `put_u32` meets its contract: the bytes of the swapped number, the last first, are those of v, and a store changes no length.
 use Prim.Native.Nat.{ℕ, suc, _<_}
 use mathlib.Core.Path.{_≡_, _∙_}
 use mathlib.Core.List.{List}
 use native.Mathlib.Omega.{arith}
 use lib.ListN.{length}
 use lib.Dec.{lit<}
-use Rattle.octets.proofs.LastFirst.{stored, same-length, four-stored, word-put, no-word-put}
-use Rattle.octets.proofs.word.put_u32.Statement.{statement}
-use Rattle.octets.proofs.word.put_u32.Tie as tie
+use Rattle.word.proofs.LastFirst.{stored, same-length, four-stored, word-put, no-word-put}
+use Rattle.word.proofs.put_u32.Statement.{statement}
+use Rattle.word.proofs.put_u32.Tie as tie
 
 returns : tie.Need-returns
 returns c = no-word-put _ _ (omega arith)

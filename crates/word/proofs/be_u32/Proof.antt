@@ -1,13 +1,13 @@
--- `word::be_u32` meets its contract: the bytes of the number that was read the lowest first are the four bytes, the last first, and these are taken
+-- `be_u32` meets its contract: the bytes of the number that was read the lowest first are the four bytes, the last first, and these are taken
 -- the last first.
 use mathlib.Core.Path.{_∙_}
 use borrow.Author.Needs.{needs}
 use denote.Ref.{now}
 use native.Mathlib.Omega.{arith}
 use Rattle.octets.proofs.Numbers.{read-at}
-use Rattle.octets.proofs.Words.{turned-are}
-use Rattle.octets.proofs.word.be_u32.Statement.{statement}
-use Rattle.octets.proofs.word.be_u32.Tie as tie
+use Rattle.word.proofs.Words.{turned-are}
+use Rattle.word.proofs.be_u32.Statement.{statement}
+use Rattle.word.proofs.be_u32.Tie as tie
 
 returns-2 : tie.Need-returns-2
 returns-2 c =

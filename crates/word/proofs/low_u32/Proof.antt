@@ -1,9 +1,9 @@
 -- `low_u32` meets its contract: it is `be` of its bytes, the last first, and each byte is below 256.
 use borrow.Author.Needs.{needs}
 use native.Mathlib.Omega.{arith}
 use Rattle.octets.specs.Octets.{be}
-use Rattle.octets.proofs.word.low_u32.Statement.{statement}
-use Rattle.octets.proofs.word.low_u32.Tie as tie
+use Rattle.word.proofs.low_u32.Statement.{statement}
+use Rattle.word.proofs.low_u32.Tie as tie
 
 returns : tie.Need-returns
 unfolding be
@@ -13,14 +13,10 @@ pub low-u32-spec : {M : Type 1} → statement M
 low-u32-spec =
     tie.close
     (tie.spec
-    (λ c κs. search needs)
-    (λ c κs. search needs)
     (λ c. search needs)
     (λ c. search needs)
-    (λ c κs. search needs)
     (λ c. search needs)
     (λ c. search needs)
-    (λ c κs. search needs)
     (λ c. search needs)
     (λ c. search needs)
     returns)

@@ -1,0 +1,3 @@
+pub mod Turned
+mod Words
+pub mod LastFirst
