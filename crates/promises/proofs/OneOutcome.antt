@@ -14,7 +14,7 @@ use Rattle.record.specs.Record.{Record}
 use Rattle.reader.specs.declared.Reader.{Reader}
 use Rattle.writer.specs.declared.Fields.{Fields}
 use Rattle.radius_writer.specs.declared.Fields as packet
-use Rattle.promises.proofs.OneOutcome.Calls.{Slice, PutWord, RecordPut, PutFound, Clear, ParseAvps, Parse, ParseAvp, ParseBy, ParseAvpBy, Dump, Write, TandrekilyMessage, TandrekilyHeader, TandrekilyAvp, TandrekilyMessageBy, TandrekilyAvpBy, TandrekilyFind, TandrekilyNext, TandrekilyWrite, TandrekilyCompare, ParsePacket, WritePacket, TandrekilyRadius, TandrekilyRadiusWrite}
+use Rattle.promises.proofs.OneOutcome.Calls.{Slice, PutWord, PutLong, RecordPut, PutFound, Clear, ParseAvps, Parse, ParseAvp, ParseBy, ParseAvpBy, Dump, Write, TandrekilyMessage, TandrekilyHeader, TandrekilyAvp, TandrekilyMessageBy, TandrekilyAvpBy, TandrekilyFind, TandrekilyNext, TandrekilyWrite, TandrekilyCompare, ParsePacket, WritePacket, TandrekilyRadius, TandrekilyRadiusWrite}
 use Rattle.promises.proofs.OneOutcome.ByHand.{ReaderNew, ReaderNext, ReaderFind}
 use Rattle.octets.proofs.be_u16.Reads as be-u16
 use Rattle.octets.proofs.be_u24.Reads as be-u24
@@ -162,6 +162,9 @@ word-be-u32-one κs a r r′ s p q = p ∙ sym q
 
 put-word-one : (κs : Lfts 1) (out : Slice) (v : ℕ) (after after′ : Slice) → PutWord κs out v after → PutWord κs out v after′ → now after ≡ now after′
 put-word-one κs out v after after′ p q = p ∙ sym q
+
+put-long-one : (κs : Lfts 1) (out : Slice) (v : ℕ) (after after′ : Slice) → PutLong κs out v after → PutLong κs out v after′ → now after ≡ now after′
+put-long-one κs out v after after′ p q = p ∙ sym q
 
 -- ---- rfc3629, ascii and utf8
 

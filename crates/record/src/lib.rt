@@ -5,7 +5,7 @@ pub mod outline;
 pub mod written;
 
 ghost use mathlib.Core.Path.{_≡_};
-ghost use mathlib.Core.List.{_++_, reverse};
+ghost use mathlib.Core.List.{_++_};
 ghost use Prim.Native.Nat.{_+_, _≤_, _<_};
 ghost use lib.ListN.{length, take, drop, replicate};
 ghost use lib.Seq.{sets};
@@ -42,15 +42,6 @@ fn put_u8(store: &mut [u8], at: usize, v: u8)
     store[at] = v;
 }
 
-// The bytes of a number turned round. A number is stored turned round and its lowest byte first: the compiler joins such stores
-// into one wide store, and leaves those with the highest byte first as single bytes.
-fn swap_u64(v: u64) -> u64
-    ensures { λ r. ⌜ octets 8 r ≡ reverse (octets 8 v) ⌝ }
-{
-    let b = octets::to_be_u64(v);
-    octets::be_u64(b[7], b[6], b[5], b[4], b[3], b[2], b[1], b[0])
-}
-
 fn put_u32(store: &mut [u8], at: usize, v: u32)
     requires { ⌜ at + 4 ≤ length (now store) ⌝ }
     ensures { λ _. ⌜ now (store .exit) ≡ sets (now (store .entry)) at (octets 4 v) ⌝ }
@@ -62,15 +53,7 @@ fn put_u64(store: &mut [u8], at: usize, v: u64)
     requires { ⌜ at + 8 ≤ length (now store) ⌝ }
     ensures { λ _. ⌜ now (store .exit) ≡ sets (now (store .entry)) at (octets 8 v) ⌝ }
 {
-    let b = octets::to_be_u64(swap_u64(v));
-    store[at] = b[7];
-    store[at + 1] = b[6];
-    store[at + 2] = b[5];
-    store[at + 3] = b[4];
-    store[at + 4] = b[3];
-    store[at + 5] = b[2];
-    store[at + 6] = b[1];
-    store[at + 7] = b[0];
+    word::put_u64(&mut store[at..at + 8], v);
 }
 
 // A byte and then three bytes, as one number, since that is one store.

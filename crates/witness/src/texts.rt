@@ -6,10 +6,11 @@ use value::Value;
 
 fn utf8(text: &[u8]) {
     let read = Value::new(false, UTF8_STRING, text);
+    let value = read.value;
     print::label(b"utf8");
     print::bit(tandrekily::tandrekily_is_utf8(text));
     print::number(tandrekily::tandrekily_utf8(text) as u64);
-    print::number(read.value.kind() as u64);
+    print::number(value.kind() as u64);
     print::bytes(text);
     print::end();
 }

@@ -1,8 +1,9 @@
 -- The bytes of a list put into a store one by one, the last first. No byte that is put changes the length of the store, and all of
 -- them are the list turned round, put as one.
 use Prim.Native.Nat.{ℕ, zero, suc, _+_, _-_, _≤_, _<_}
-use mathlib.Core.Path.{_≡_, sym, _∙_}
+use mathlib.Core.Path.{_≡_, _∙_}
 use mathlib.Core.List.{List, reverse}
+use native.Mathlib.Nat.{zero-add}
 use native.Mathlib.Omega.{arith}
 use native.Mathlib.Numerals.{towards-suc}
 use lib.ListN.{length, getD, set, take, drop, length-set, length-drop}
@@ -10,8 +11,9 @@ use lib.Seq.{sets, sets-eq, length-take-le}
 use borrow.Rule.Slice.PartMut.{putMid}
 use borrow.Author.Tests.{le-leb, lt-leb}
 use Rattle.octets.specs.Octets.{octets, over}
-use Rattle.word.specs.Word.{putWord}
+use Rattle.word.specs.Word.{putNumber}
 use Rattle.octets.proofs.Lists.{put-part}
+use Rattle.octets.proofs.Numbers.{length-octets}
 
 module _ (store : List ℕ) (at : ℕ) (b : List ℕ) where
   -- the store with the byte at `last` and the n before it
@@ -31,25 +33,26 @@ module _ (store : List ℕ) (at : ℕ) (b : List ℕ) where
   unfolding octets
   eight-stored v e = rw e (simp towards-suc)
 
-module _ (v : ℕ) (s : List ℕ) where
+module _ (n v : ℕ) (s : List ℕ) where
   -- a number put over the front, if there is room for it
-  word-over : 4 ≤ length s → putWord v s ≡ over (octets 4 v) s
-  unfolding putWord
-  word-over h = rw (le-leb 4 (length s) h)
+  number-over : n ≤ length s → putNumber n v s ≡ over (octets n v) s
+  unfolding putNumber
+  number-over h = rw (le-leb n (length s) h)
 
-  -- four bytes put from the front on
-  pub word-put : 4 ≤ length s → sets s 0 (octets 4 v) ≡ putWord v s
-  unfolding over octets
-  word-put h = sets-eq (octets 4 v) s 0 h ∙ sym (word-over h)
+  -- its bytes put from the front on
+  pub number-put : n ≤ length s → sets s 0 (octets n v) ≡ putNumber n v s
+  unfolding over
+  number-put h = rw (sets-eq (octets n v) s 0 (omega (arith, length-octets n v)), zero-add, number-over h)
 
-  pub no-word-put : length s < 4 → s ≡ putWord v s
-  unfolding putWord
-  no-word-put h = rw (lt-leb 4 (length s) h)
+  pub no-number-put : length s < n → s ≡ putNumber n v s
+  unfolding putNumber
+  no-number-put h = rw (lt-leb n (length s) h)
 
--- a number put over four bytes that were lent as a part
-pub word-put-at : (v : ℕ) (s : List ℕ) (at k : ℕ) (part : List ℕ) → k ≡ 4 → at + 4 ≤ length s → part ≡ putWord v (take k (drop at s))
-    → putMid at k s part ≡ sets s at (octets 4 v)
-unfolding octets
-word-put-at v s at k part e h came-back =
-    let size = length-take-le 4 (drop at s) (omega (arith, length-drop at s)) in
-    rw (came-back, e, word-over v (take 4 (drop at s)) (omega arith)) (put-part (octets 4 v) s at h)
+-- a number put over n bytes that were lent as a part
+pub number-put-at : (n v : ℕ) (s : List ℕ) (at k : ℕ) (part : List ℕ) → k ≡ n → at + n ≤ length s → part ≡ putNumber n v (take k (drop at s))
+    → putMid at k s part ≡ sets s at (octets n v)
+number-put-at n v s at k part e h came-back =
+    let width = length-octets n v in
+    let size = length-take-le n (drop at s) (omega (arith, length-drop at s)) in
+    let put = put-part (octets n v) s at (omega arith) in
+    rw (came-back, e, number-over n v (take n (drop at s)) (omega arith)) (rw width at put)

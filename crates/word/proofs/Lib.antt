@@ -1,3 +1,3 @@
-pub mod Turned
+mod Turned
 mod Words
 pub mod LastFirst

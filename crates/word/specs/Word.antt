@@ -1,4 +1,4 @@
--- The first four bytes of a list: taken the last first, and put.
+-- The first bytes of a list: four taken the last first, and four or eight put.
 use Prim.Native.Nat.{ℕ}
 use mathlib.Core.Bool.{cond}
 use mathlib.Core.List.{List, [], _∷_}
@@ -9,6 +9,12 @@ use Rattle.octets.specs.Octets.{octets, over}
 abbrev pub lastFirst : List ℕ → List ℕ
 lastFirst s = getD s 3 0 ∷ getD s 2 0 ∷ getD s 1 0 ∷ getD s 0 0 ∷ []
 
--- the four bytes of a number over the first four, where there are four
-unfoldable pub putWord : ℕ → List ℕ → List ℕ
-putWord v s = cond (leb 4 (length s)) (over (octets 4 v) s) s
+-- the n bytes of a number over the first n, where there are n
+unfoldable pub putNumber : ℕ → ℕ → List ℕ → List ℕ
+putNumber n v s = cond (leb n (length s)) (over (octets n v) s) s
+
+abbrev pub putWord : ℕ → List ℕ → List ℕ
+putWord = putNumber 4
+
+abbrev pub putLong : ℕ → List ℕ → List ℕ
+putLong = putNumber 8

@@ -1,13 +1,15 @@
-// Four bytes at the front of a slice as one number, read and put in a form of which the compiler makes one load and one store.
-// A slice of any length has an answer. Where it is cut out as four bytes, as in `&s[4..8]`, no test of its length is left.
+// Four bytes at the front of a slice as one number, read and put in a form of which the compiler makes one load and one store; eight are put
+// in the same way. A slice of any length has an answer. Where it is cut out as four bytes, as in `&s[4..8]`, no test of its length is left.
 ghost use mathlib.Core.Path.{_≡_};
 ghost use mathlib.Core.List.{[], _∷_, reverse};
 ghost use Prim.Native.Nat.{_≤_, _<_};
 ghost use lib.ListN.{length};
 ghost use Rattle.octets.specs.Octets.{be, octets, Reads};
-ghost use Rattle.word.specs.Word.{lastFirst, putWord};
+ghost use Rattle.word.specs.Word.{lastFirst, putWord, putLong};
 
-const SIZE: usize = 4;
+const U32_SIZE: usize = 4;
+
+const U64_SIZE: usize = 8;
 
 // A number of four bytes, the lowest first.
 fn low_u32(a: u8, b: u8, c: u8, d: u8) -> u32
@@ -41,14 +43,15 @@ fn short(s: &[u8]) -> u32
 pub fn be_u32(s: &[u8]) -> u32
     ensures { λ r. ⌜ r ≡ be 4 (now (s .entry)) 0 ⌝ }
 {
-    if s.len() < SIZE {
+    if s.len() < U32_SIZE {
         return short(s);
     }
     let b = octets::to_be_u32(low_first(s));
     octets::be_u32(b[3], b[2], b[1], b[0])
 }
 
-// The bytes of a number turned round.
+// The bytes of a number turned round. A number is put turned round and its lowest byte first: the compiler joins such stores
+// into one wide store, and leaves those with the highest byte first as single bytes.
 fn swap_u32(v: u32) -> u32
     ensures { λ r. ⌜ octets 4 r ≡ reverse (octets 4 v) ⌝ }
 {
@@ -60,13 +63,37 @@ fn swap_u32(v: u32) -> u32
 pub fn put_u32(out: &mut [u8], v: u32)
     ensures { λ _. ⌜ now (out .exit) ≡ putWord v (now (out .entry)) ⌝ }
 {
-    if out.len() < SIZE {
+    if out.len() < U32_SIZE {
         return;
     }
-    // the lowest byte first: the compiler joins such stores into one, and leaves those with the highest byte first as single bytes
     let b = octets::to_be_u32(swap_u32(v));
     out[0] = b[3];
     out[1] = b[2];
     out[2] = b[1];
     out[3] = b[0];
+}
+
+fn swap_u64(v: u64) -> u64
+    ensures { λ r. ⌜ octets 8 r ≡ reverse (octets 8 v) ⌝ }
+{
+    let b = octets::to_be_u64(v);
+    octets::be_u64(b[7], b[6], b[5], b[4], b[3], b[2], b[1], b[0])
+}
+
+/// Puts a number over the first eight bytes, if there are eight.
+pub fn put_u64(out: &mut [u8], v: u64)
+    ensures { λ _. ⌜ now (out .exit) ≡ putLong v (now (out .entry)) ⌝ }
+{
+    if out.len() < U64_SIZE {
+        return;
+    }
+    let b = octets::to_be_u64(swap_u64(v));
+    out[0] = b[7];
+    out[1] = b[6];
+    out[2] = b[5];
+    out[3] = b[4];
+    out[4] = b[3];
+    out[5] = b[2];
+    out[6] = b[1];
+    out[7] = b[0];
 }

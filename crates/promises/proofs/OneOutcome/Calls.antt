@@ -13,6 +13,7 @@ use Rattle.utf8.proofs.check.Reads as check
 use Rattle.utf8.proofs.is_utf8.Reads as is-utf8
 use Rattle.record.specs.Record.{Record}
 use Rattle.word.proofs.put_u32.Reads as put-word
+use Rattle.word.proofs.put_u64.Reads as put-long
 use Rattle.record.proofs.Record.put.Reads as put
 use Rattle.record.proofs.Record.put_found.Reads as put-found
 use Rattle.record.proofs.clear.Reads as clear
@@ -64,6 +65,9 @@ IsUtf8 κs s r = is-utf8.Post κs (s, tt) r (s, tt)
 
 abbrev pub PutWord : Lfts 1 → Slice → ℕ → Slice → Type 0
 PutWord κs out v out′ = put-word.Post κs (out, (v, tt)) tt (out′, (v, tt))
+
+abbrev pub PutLong : Lfts 1 → Slice → ℕ → Slice → Type 0
+PutLong κs out v out′ = put-long.Post κs (out, (v, tt)) tt (out′, (v, tt))
 
 abbrev pub RecordPut : Lfts 1 → Record → Slice → Bool → Slice → Type 0
 RecordPut κs self store r store′ = put.Post κs (self, (store, tt)) r (self, (store′, tt))

@@ -1,55 +1,16 @@
--- `put_u64` meets its contract: the bytes of the swapped number, the last first, are those of v, and a store changes no length.
-use Prim.Native.Nat.{ℕ, suc, _+_, _<_}
-use mathlib.Core.Path.{_≡_, _∙_}
-use mathlib.Core.List.{List}
+-- `put_u64` meets its contract: the eight bytes that are lent come back as those of the number.
+use Prim.Native.Nat.{_+_, _-_}
 use native.Mathlib.Omega.{arith}
-use lib.ListN.{length}
-use lib.Dec.{lit<}
-use Rattle.word.proofs.LastFirst.{stored, same-length, eight-stored}
+use denote.Ref.{now}
+use borrow.Author.Needs.{needs}
+use Rattle.word.proofs.LastFirst.{number-put-at}
 use Rattle.record.proofs.put_u64.Statement.{statement}
 use Rattle.record.proofs.put_u64.Tie as tie
 
--- the code's store, so far
-abbrev after : tie.After-to-be-u64 → ℕ → List ℕ
-after c = let args = c .before .before .before .args in stored (args .store .now) (args .at) (c .to-be-u64 .result) 7
-
-kept : (c : tie.After-to-be-u64) (n : ℕ) → length (after c n) ≡ length (c .before .before .before .args .store .now)
-kept c = let args = c .before .before .before .args in same-length (args .store .now) (args .at) (c .to-be-u64 .result) 7
-
-within : (c : tie.After-to-be-u64) (n : ℕ) → n < 7 → c .before .before .before .args .at + suc n < length (after c n)
-within c n h = let k = kept c n in omega arith
-
 returns : tie.Need-returns
-returns c = eight-stored _ _ _ _ (c .to-be-u64 .ensures ∙ c .before .swap-u64 .ensures)
+returns c =
+    let a = c .before .before .before .before .before .args in
+    number-put-at 8 _ (now (a .store)) (a .at) (a .at + 8 - a .at) _ (omega arith) (omega arith) (c .before .before .put-u64 .ensures)
 
 pub put-u64-spec : {M : Type 1} → statement M
-put-u64-spec =
-    tie.close
-    (tie.spec
-    (λ c κs. tt)
-    (λ c κs. tt)
-    (λ c. omega arith)
-    (λ c. omega arith)
-    (λ c. omega arith)
-    (λ c. omega arith)
-    (λ c. within c 0 (lit< tt))
-    (λ c. omega arith)
-    (λ c. omega arith)
-    (λ c. within c 1 (lit< tt))
-    (λ c. omega arith)
-    (λ c. omega arith)
-    (λ c. within c 2 (lit< tt))
-    (λ c. omega arith)
-    (λ c. omega arith)
-    (λ c. within c 3 (lit< tt))
-    (λ c. omega arith)
-    (λ c. omega arith)
-    (λ c. within c 4 (lit< tt))
-    (λ c. omega arith)
-    (λ c. omega arith)
-    (λ c. within c 5 (lit< tt))
-    (λ c. omega arith)
-    (λ c. omega arith)
-    (λ c. within c 6 (lit< tt))
-    (λ c. kept c 7)
-    returns)
+put-u64-spec = tie.close (tie.spec (λ c. search needs) (λ c. search needs) (λ c. search needs) (λ c. search needs) (λ c κs. tt) (λ c. search needs) returns)

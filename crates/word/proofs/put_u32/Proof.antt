@@ -5,12 +5,12 @@ use mathlib.Core.List.{List}
 use native.Mathlib.Omega.{arith}
 use lib.ListN.{length}
 use lib.Dec.{lit<}
-use Rattle.word.proofs.LastFirst.{stored, same-length, four-stored, word-put, no-word-put}
+use Rattle.word.proofs.LastFirst.{stored, same-length, four-stored, number-put, no-number-put}
 use Rattle.word.proofs.put_u32.Statement.{statement}
 use Rattle.word.proofs.put_u32.Tie as tie
 
 returns : tie.Need-returns
-returns c = no-word-put _ _ (omega arith)
+returns c = no-number-put 4 _ _ (omega arith)
 
 -- the code's store, so far
 abbrev after : tie.After-to-be-u32 → ℕ → List ℕ
@@ -23,7 +23,7 @@ within : (c : tie.After-to-be-u32) (n : ℕ) → n < 3 → suc n < length (after
 within c n h = let k = kept c n in omega arith
 
 returns-2 : tie.Need-returns-2
-returns-2 c = four-stored _ _ _ _ (c .to-be-u32 .ensures ∙ c .before .swap-u32 .ensures) ∙ word-put _ _ (omega arith)
+returns-2 c = four-stored _ _ _ _ (c .to-be-u32 .ensures ∙ c .before .swap-u32 .ensures) ∙ number-put 4 _ _ (omega arith)
 
 pub put-u32-spec : {M : Type 1} → statement M
 put-u32-spec =

@@ -3,14 +3,14 @@ use Prim.Native.Nat.{_+_, _-_}
 use native.Mathlib.Omega.{arith}
 use denote.Ref.{now}
 use borrow.Author.Needs.{needs}
-use Rattle.word.proofs.LastFirst.{word-put-at}
+use Rattle.word.proofs.LastFirst.{number-put-at}
 use Rattle.writer.proofs.emit.put_u32.Statement.{statement}
 use Rattle.writer.proofs.emit.put_u32.Tie as tie
 
 returns : tie.Need-returns
 returns c =
     let a = c .before .before .before .before .before .args in
-    word-put-at _ (now (a .out)) (a .at) (a .at + 4 - a .at) _ (omega arith) (omega arith) (c .before .before .put-u32 .ensures)
+    number-put-at 4 _ (now (a .out)) (a .at) (a .at + 4 - a .at) _ (omega arith) (omega arith) (c .before .before .put-u32 .ensures)
 
 pub put-u32-spec : {M : Type 1} → statement M
 put-u32-spec = tie.close (tie.spec (λ c. search needs) (λ c. search needs) (λ c. search needs) (λ c. search needs) (λ c κs. tt) (λ c. search needs) returns)

@@ -1,9 +1,9 @@
 -- `swap_u64` meets its contract: it reads a number from the bytes of v, the last first, and `turned` says that these are its bytes.
 use borrow.Author.Needs.{needs}
 use Rattle.octets.specs.Octets.{octets}
 use Rattle.word.proofs.Turned.{turned}
-use Rattle.record.proofs.swap_u64.Statement.{statement}
-use Rattle.record.proofs.swap_u64.Tie as tie
+use Rattle.word.proofs.swap_u64.Statement.{statement}
+use Rattle.word.proofs.swap_u64.Tie as tie
 
 returns : tie.Need-returns
 unfolding octets
