@@ -117,12 +117,7 @@ pub fn parse(s: &[u8]) -> ParsedAvp
 pub fn pads(p: &[u8]) -> u32
     ensures { λ r. ⌜ r ≡ be 3 (now (p .entry)) 0 ⌝ }
 {
-    match p.len() {
-        0 => 0,
-        1 => octets::be_u24(p[0], 0, 0),
-        2 => octets::be_u24(p[0], p[1], 0),
-        _ => octets::be_u24(p[0], p[1], p[2]),
-    }
+    word::be_u32(p) / 0x100
 }
 
 /// Do complete AVPs cover `s` to its last byte?

@@ -1,15 +1,13 @@
 -- Where a run has as many records as headers were tried, every group in it tiles: in one that does not, headers are tried that have no
 -- record. So a reader that knows both numbers need not ask a group again.
 use Prim.Native.Nat.{ℕ, _≤_}
-use mathlib.Core.Path.{_≡_, refl, sym, ap, _∙_}
-use mathlib.Core.Bool.{Bool, true, false, _&&_}
-use mathlib.Core.Logic.{inl, inr}
+use mathlib.Core.Path.{_≡_, refl, sym, _∙_}
+use mathlib.Core.Bool.{Bool, true, false}
 use mathlib.Core.List.{List}
 use native.Mathlib.Omega.{arith}
 use lib.Dec.{eqb}
 use Rattle.octets.specs.Run.{Tree, done, broken, plain, group, tree, tiles, tried}
 use Rattle.octets.proofs.Runs.{false-true}
-use Rattle.refusal.proofs.Tests.{decide}
 use Rattle.record.specs.Kinds.{grouped}
 use Rattle.rfc6733.specs.Avp.{code, vendor, payload}
 use Rattle.rfc6733.specs.Dictionary.{Dictionary}

@@ -9,7 +9,7 @@ use mathlib.Core.List.{List, [], _∷_, _++_, append-nil}
 use native.Mathlib.Omega.{arith}
 use lib.ListN.{length, take, drop, drop-of-length-le}
 use lib.Seq.{take-all}
-use Rattle.octets.specs.Run.{item, after, Tree, done, plain, group, node, tree, tiles, tried, deepest}
+use Rattle.octets.specs.Run.{item, after, Tree, done, group, node, tree, tiles, tried, deepest}
 use Rattle.octets.proofs.Runs.{parts, tree-none, tree-step}
 use Rattle.flags.specs.Flags.{join}
 use Rattle.rfc6733.specs.Dictionary.{Dictionary}
@@ -90,16 +90,6 @@ joined D s e =
     in
     let j = joined-node D (avps D .nested a) a (tree (avps D) (payload a)) (tree (avps D) (after (avps D) s)) in
     rw (t, exact-tree D a (item-exact D s e)) (rw (item-length (avps D .nested) s w) at j)
-
--- ---- one AVP, entered or not
-
-pub alone-plain : (D : Dictionary) (a : List ℕ) → avps D .nested a ≡ false → alone D a ≡ plain a done
-unfolding alone
-alone-plain D a e = rw e
-
-pub alone-group : (D : Dictionary) (a : List ℕ) → avps D .nested a ≡ true → alone D a ≡ group a (tree (avps D) (payload a)) done
-unfolding alone
-alone-group D a e = rw e
 
 -- a byte left is a header tried
 pub some-tried : (D : Dictionary) (s : List ℕ) → 0 < length s → (1 ≤ deepest (tree (avps D) s)) × (1 ≤ tried (tree (avps D) s))

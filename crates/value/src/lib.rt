@@ -253,7 +253,7 @@ impl Value {
     pub fn new_known(families: bool, tiles: bool, kind: u8, data: &[u8]) -> Read
         ensures { λ r. ⌜ Shows (valueIf (tiles || tiling (now («data» .entry))) (addressBy families) (known kind) (now («data» .entry))) (now («data» .entry)) r ⌝ }
     {
-        // A number's kind is a constant in its arm, so that the compiler knows what it builds. `&data[..]` keeps the slice in
+        // A number's kind is a constant in its arm, so that the compiler knows what it builds. `data` keeps the slice in
         // registers: one that is passed on whole is kept in memory.
         match kind {
             OCTET_STRING => Read::good(Value::OctetString),
@@ -263,11 +263,11 @@ impl Value {
             UNSIGNED64 => Read::fixed_64(UNSIGNED64, data),
             FLOAT32 => Read::fixed_32(FLOAT32, data),
             FLOAT64 => Read::fixed_64(FLOAT64, data),
-            GROUPED => Read::group(tiles || front::tiles(&data[..])),
+            GROUPED => Read::group(tiles || front::tiles(data)),
             ENUMERATED => Read::fixed_32(ENUMERATED, data),
-            UTF8_STRING => Read::text(utf8::check(&data[..]), Value::UTF8String),
-            DIAMETER_IDENTITY => Read::text(utf8::check(&data[..]), Value::DiameterIdentity),
-            DIAMETER_URI => Read::text(utf8::check(&data[..]), Value::DiameterURI),
+            UTF8_STRING => Read::text(utf8::check(data), Value::UTF8String),
+            DIAMETER_IDENTITY => Read::text(utf8::check(data), Value::DiameterIdentity),
+            DIAMETER_URI => Read::text(utf8::check(data), Value::DiameterURI),
             ADDRESS => {
                 if families {
                     Read::family_address(data)

@@ -1,6 +1,5 @@
 -- `own_record` meets its contract: each field is the AVP's, and fits the record's.
 use native.Mathlib.Omega.{arith}
-use borrow.Author.Needs.{needs}
 use Rattle.avps.proofs.fill.own_record.Statement.{statement}
 use Rattle.avps.proofs.fill.own_record.Tie as tie
 

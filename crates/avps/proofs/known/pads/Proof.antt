@@ -4,8 +4,6 @@ use mathlib.Core.Path.{_≡_, ap, _∙_}
 use mathlib.Core.List.{List}
 use native.Mathlib.Omega.{arith}
 use lib.ListN.{length, drop}
-use denote.Ref.{now}
-use borrow.Author.Needs.{needs}
 use Rattle.octets.specs.Octets.{be, Bytes}
 use Rattle.octets.proofs.Words.{end-of-word}
 use Rattle.rfc6733.specs.Avp.{Exact}
