@@ -117,14 +117,16 @@ impl Header {
         requires { ⌜ headerSize ≤ length (now input) ⌝ }
         ensures { λ r. ⌜ headerAs r ≡ headerOf (now (input .entry)) ⌝ }
     {
+        let version_length = word::be_u32(&input[..4]);
+        let flags_code = word::be_u32(&input[4..8]);
         Header {
-            version: input[0],
-            length: octets::be_u24(input[1], input[2], input[3]),
-            flags: input[4],
-            code: octets::be_u24(input[5], input[6], input[7]),
-            app_id: octets::be_u32(input[8], input[9], input[10], input[11]),
-            hop_id: octets::be_u32(input[12], input[13], input[14], input[15]),
-            end_id: octets::be_u32(input[16], input[17], input[18], input[19]),
+            version: (version_length / 0x100_0000) as u8,
+            length: version_length % 0x100_0000,
+            flags: (flags_code / 0x100_0000) as u8,
+            code: flags_code % 0x100_0000,
+            app_id: word::be_u32(&input[8..12]),
+            hop_id: word::be_u32(&input[12..16]),
+            end_id: word::be_u32(&input[16..20]),
         }
     }
 

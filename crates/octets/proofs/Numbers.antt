@@ -6,7 +6,7 @@ use mathlib.Core.List.{List, [], _∷_, _++_, append-assoc, append-nil}
 use native.Mathlib.Nat.{pow-suc, pow-succ', mod-one, div-one, div-div-eq-div-mul, zero-add, add-zero, add-suc, add-assoc, one-le-pow, zero-lt-suc, mod-lt}
 use native.Mathlib.Omega.{arith}
 use lib.Arith.{mod-mul, digits-div, digits-mod}
-use lib.ListN.{length, getD, take, drop, length-append, length-drop, List·getD-append}
+use lib.ListN.{length, getD, take, drop, length-append, length-drop, List·getD-append, List·getD-eq-default}
 use lib.Seq.{getD-at, getD-append-add, getD-take, getD-drop, take-suc, take-all}
 use Rattle.octets.specs.Octets.{be, octets, Field, field, pack, widths, Bytes, Reads}
 
@@ -20,10 +20,12 @@ be-same (suc n) s t i k h = ap₂ (λ (x y : ℕ). x * 256 + y) (be-same n s t i
 pub be-take : (n : ℕ) (s : List ℕ) (k i : ℕ) → i + n ≤ k → be n (take k s) i ≡ be n s i
 be-take n s k i h = be-same n (take k s) s i i (λ j l. getD-take k s (i + j) 0 (omega arith))
 
--- of a part that starts at `at`
+-- of what starts at `at`, and of a part of it
+pub be-drop : (n : ℕ) (s : List ℕ) (at : ℕ) → be n (drop at s) 0 ≡ be n s at
+be-drop n s at = be-same n (drop at s) s 0 at (λ j l. rw zero-add (getD-drop at s j 0))
+
 pub be-part : (n : ℕ) (s : List ℕ) (k at : ℕ) → n ≤ k → be n (take k (drop at s)) 0 ≡ be n s at
-be-part n s k at h =
-    be-take n (drop at s) k 0 (omega arith) ∙ be-same n (drop at s) s 0 at (λ j l. rw zero-add (getD-drop at s j 0))
+be-part n s k at h = be-take n (drop at s) k 0 (omega arith) ∙ be-drop n s at
 
 pub be-front : (n : ℕ) (s t : List ℕ) (i : ℕ) → i + n ≤ length s → be n (s ++ t) i ≡ be n s i
 be-front n s t i h = be-same n (s ++ t) s i i (λ j l. List·getD-append s t 0 (i + j) (omega arith))
@@ -45,6 +47,18 @@ byte-at (suc n) s i (suc j) h = byte-at n s (i + 1) j (omega arith) ∙ ap (λ (
 
 pub read-at : (n : ℕ) (s : List ℕ) (i r : ℕ) → Reads n (bytes n s i) r → r ≡ be n s i
 read-at n s i r h = h .is ∙ be-same n (bytes n s i) s 0 i (λ j l. rw zero-add (byte-at n s i j l))
+
+-- where all its bytes are absent
+pub be-absent : (n : ℕ) (s : List ℕ) (i : ℕ) → length s ≤ i → be n s i ≡ 0
+unfolding be
+be-absent zero s i h = refl
+be-absent (suc n) s i h = omega (arith, be-absent n s i h, List·getD-eq-default s 0 {n = i + n} (omega arith))
+
+-- the high bytes and the low ones
+pub read-parts : (m n : ℕ) (s : List ℕ) (i : ℕ) → be (m + n) s i ≡ be m s i * 256 ^ n + be n s (i + m)
+unfolding be
+read-parts m zero s i = rw (add-zero m) (omega arith)
+read-parts m (suc n) s i = rw (add-suc, read-parts m n s i, pow-suc, add-assoc) (omega arith)
 
 pub one-byte : (s : List ℕ) (i : ℕ) → be 1 s i ≡ getD s i 0
 unfolding be

@@ -26,6 +26,7 @@ use Rattle.octets.proofs.to_be_u32.Reads as to-be-u32
 use Rattle.octets.proofs.to_be_u64.Reads as to-be-u64
 use Rattle.octets.proofs.at_hand.length.Reads as length
 use Rattle.word.proofs.be_u32.Reads as word-be-u32
+use Rattle.word.proofs.be_u64.Reads as word-be-u64
 use Rattle.rfc3629.proofs.is_utf8_1.Reads as is-utf8-1
 use Rattle.rfc3629.proofs.is_utf8_2.Reads as is-utf8-2
 use Rattle.rfc3629.proofs.is_utf8_3.Reads as is-utf8-3
@@ -159,6 +160,9 @@ length-one κs a r r′ s p q = p ∙ sym q
 
 word-be-u32-one : Single word-be-u32.Post
 word-be-u32-one κs a r r′ s p q = p ∙ sym q
+
+word-be-u64-one : Single word-be-u64.Post
+word-be-u64-one κs a r r′ s p q = p ∙ sym q
 
 put-word-one : (κs : Lfts 1) (out : Slice) (v : ℕ) (after after′ : Slice) → PutWord κs out v after → PutWord κs out v after′ → now after ≡ now after′
 put-word-one κs out v after after′ p q = p ∙ sym q

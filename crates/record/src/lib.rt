@@ -200,16 +200,7 @@ impl Record {
     {
         let mut r = Self::fields(table);
         r.errors = table[18];
-        r.value = octets::be_u64(
-            table[24],
-            table[25],
-            table[26],
-            table[27],
-            table[28],
-            table[29],
-            table[30],
-            table[31],
-        );
+        r.value = word::be_u64(&table[24..32]);
         r
     }
 

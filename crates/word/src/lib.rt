@@ -1,5 +1,5 @@
-// Four bytes at the front of a slice as one number, read and put in a form of which the compiler makes one load and one store; eight are put
-// in the same way. A slice of any length has an answer. Where it is cut out as four bytes, as in `&s[4..8]`, no test of its length is left.
+// Four or eight bytes at the front of a slice as one number, read and put in a form of which the compiler makes one load and one store.
+// A slice of any length has an answer. Where it is cut out as four bytes, as in `&s[4..8]`, no test of its length is left.
 ghost use mathlib.Core.Path.{_≡_};
 ghost use mathlib.Core.List.{[], _∷_, reverse};
 ghost use Prim.Native.Nat.{_≤_, _<_};
@@ -48,6 +48,17 @@ pub fn be_u32(s: &[u8]) -> u32
     }
     let b = octets::to_be_u32(low_first(s));
     octets::be_u32(b[3], b[2], b[1], b[0])
+}
+
+/// The first eight bytes as a number. A byte that is absent counts as 0.
+pub fn be_u64(s: &[u8]) -> u64
+    ensures { λ r. ⌜ r ≡ be 8 (now (s .entry)) 0 ⌝ }
+{
+    let high = be_u32(s) as u64 * 0x1_0000_0000;
+    if s.len() < U32_SIZE {
+        return high;
+    }
+    high + be_u32(&s[U32_SIZE..]) as u64
 }
 
 // The bytes of a number turned round. A number is put turned round and its lowest byte first: the compiler joins such stores

@@ -1,26 +1,20 @@
 -- `short` meets its contract: a byte that is absent counts as 0 in the definition, and each arm has 0 for the bytes that are.
 use Prim.Native.Nat.{ℕ, _≤_}
-use mathlib.Core.Path.{_≡_, refl}
-use mathlib.Core.List.{List, [], _∷_}
+use mathlib.Core.Path.{_≡_, sym}
+use mathlib.Core.List.{List}
 use native.Mathlib.Omega.{arith}
 use lib.ListN.{length, getD, List·getD-eq-default}
 use denote.Ref.{now}
 use borrow.Author.Needs.{needs}
-use Rattle.octets.specs.Octets.{be}
-use Rattle.octets.proofs.Numbers.{read-at}
+use Rattle.octets.proofs.Numbers.{be-absent, read-at}
 use Rattle.word.proofs.short.Statement.{statement}
 use Rattle.word.proofs.short.Tie as tie
-
-no-byte : (s : List ℕ) → length s ≡ 0 → 0 ≡ be 4 s 0
-unfolding be
-no-byte [] h = refl
-no-byte (b ∷ s) h = absurd (omega arith)
 
 absent : (s : List ℕ) (i : ℕ) → length s ≤ i → getD s i 0 ≡ 0
 absent s i h = List·getD-eq-default s 0 h
 
 returns : tie.Need-returns
-returns c = no-byte _ (omega arith)
+returns c = sym (be-absent 4 _ 0 (omega arith))
 
 returns-2 : tie.Need-returns-2
 returns-2 c =

@@ -1,7 +1,13 @@
--- `fields` meets its contract: each field is read at its place in the 20 bytes, and the definition has there the same number.
+-- `fields` meets its contract: each word is read at its place in the 20 bytes. The first two hold two fields each, a byte and three bytes,
+-- which are the word's quotient and its remainder.
+use mathlib.Core.Path.{_∙_}
 use native.Mathlib.Omega.{arith}
+use borrow.Author.Needs.{needs}
+use lib.ListN.{length-take}
 use denote.Ref.{now}
-use Rattle.octets.proofs.Numbers.{read-at, one-byte}
+use Rattle.octets.specs.Octets.{Bytes}
+use Rattle.octets.proofs.Numbers.{be-take, be-part}
+use Rattle.octets.proofs.Words.{high-byte, low-three}
 use Rattle.rfc6733.specs.Header.{headerOf}
 use Rattle.header.specs.Parsed.{headerAs}
 use Rattle.header.proofs.Header.fields.Statement.{statement}
@@ -10,48 +16,47 @@ use Rattle.header.proofs.Header.fields.Tie as tie
 returns : tie.Need-returns
 unfolding headerAs headerOf
 returns c =
-    let hop = c .before .before .before .before .before in
-    let app = hop .before .before .before .before .before in
-    let code = app .before .before .before .before .before in
-    let length = code .before .before .before .before .before in
-    let s = now (length .before .before .before .before .before .before .args .input) in
+    let hop = c .before .before in
+    let app = hop .before .before in
+    let second = app .before .before in
+    let first = second .before .before in
+    let known = first .before .before in
+    let s = now (known .before .args .input) in
+    let bytes : Bytes s = λ i. omega (arith, known .shared-slice-known .given i) in
     rw (
-      one-byte s 0,
-      read-at 3 s 1 _ (length .be-u24 .ensures),
-      one-byte s 4,
-      read-at 3 s 5 _ (code .be-u242 .ensures),
-      read-at 4 s 8 _ (app .be-u32 .ensures),
-      read-at 4 s 12 _ (hop .be-u322 .ensures),
-      read-at 4 s 16 _ (c .be-u323 .ensures),
+      first .be-u32 .ensures ∙ be-take 4 s 4 0 (omega arith),
+      second .be-u322 .ensures ∙ be-part 4 s 4 4 (omega arith),
+      app .be-u323 .ensures ∙ be-part 4 s 4 8 (omega arith),
+      hop .be-u324 .ensures ∙ be-part 4 s 4 12 (omega arith),
+      c .be-u325 .ensures ∙ be-part 4 s 4 16 (omega arith),
+      high-byte s bytes 0,
+      low-three s bytes 0,
+      high-byte s bytes 4,
+      low-three s bytes 4,
     )
 
 pub fields-spec : {M : Type 1} → statement M
 fields-spec =
     tie.close
     (tie.spec
-    (λ c. omega arith)
-    (λ c. omega arith)
-    (λ c. omega arith)
-    (λ c. omega arith)
+    (λ c. omega (arith, length-take 4 (now (c .before .before .args .input)), c .before .before .pre))
     (λ c κs. tt)
     (λ c. omega arith)
+    (λ c. search needs)
+    (λ c. search needs)
+    (λ c κs. tt)
+    (λ c. search needs)
+    (λ c. search needs)
     (λ c. omega arith)
-    (λ c. omega arith)
-    (λ c. omega arith)
+    (λ c. search needs)
+    (λ c. search needs)
     (λ c κs. tt)
     (λ c. omega arith)
-    (λ c. omega arith)
-    (λ c. omega arith)
-    (λ c. omega arith)
+    (λ c. search needs)
+    (λ c. search needs)
     (λ c κs. tt)
     (λ c. omega arith)
-    (λ c. omega arith)
-    (λ c. omega arith)
-    (λ c. omega arith)
-    (λ c κs. tt)
-    (λ c. omega arith)
-    (λ c. omega arith)
-    (λ c. omega arith)
-    (λ c. omega arith)
+    (λ c. search needs)
+    (λ c. search needs)
     (λ c κs. tt)
     returns)
