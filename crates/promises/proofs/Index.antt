@@ -39,10 +39,10 @@ use Rattle.diameter.specs.declared.Decoded.{Decoded}
 use Rattle.diameter.specs.declared.Decoded.the-variants as decoder
 use Rattle.diameter.specs.Answers.{answerOf, messageAs}
 use Rattle.diameter.proofs.AnswerOf.{answer-of-injective}
-use Rattle.reader.specs.declared.Found.{Found}
-use Rattle.reader.specs.declared.Found.the-variants.{At, None, Refused}
-use Rattle.reader.specs.Reading as reader
-use Rattle.reader.proofs.AnswerOf.{outcome-back, outcome-is-back}
+use Rattle.steps.specs.declared.Found.{Found}
+use Rattle.steps.specs.declared.Found.the-variants.{At, None, Refused}
+use Rattle.steps.specs.Steps as steps
+use Rattle.steps.proofs.AnswerOf.{outcome-back, outcome-is-back}
 use Rattle.promises.proofs.OneOutcome.Calls.{Slice, Find}
 use Rattle.promises.proofs.Ways.{Way, dictionaryOf, Known, Decode, decodes, accepts, refuses, lawful}
 use Rattle.promises.proofs.RoundTrip.{left}
@@ -113,8 +113,8 @@ record-there before behind it rest =
       take-append-le 4 (drop 19 (recordBytes it)) more (omega (arith, length-drop 19 (recordBytes it))),
     )
 
-found-outline : (o : Outline) (x : Option Outline) → reader.answerOf (At o) ≡ accepted x → x ≡ some o
-unfolding reader.answerOf
+found-outline : (o : Outline) (x : Option Outline) → steps.answerOf (At o) ≡ accepted x → x ≡ some o
+unfolding steps.answerOf
 found-outline o x e = cc
 
 -- what was found stands in the store
@@ -175,7 +175,7 @@ pub refused-by-both : (way : Way) (κs : Lfts 2) (limit : ℕ) (input store : Sl
     (λs : Lfts 1) (code : ℕ) (why : Refusal)
     → Known way → Decode way κs limit input store r store′ → Find λs input code (Refused why) → 1 ≤ limit → limit ≤ 64
     → r ≡ decoder.Refused why
-unfolding answerOf reader.answerOf allowed
+unfolding answerOf steps.answerOf allowed
 refused-by-both way κs limit input store r store′ λs code why known p q low high =
     let says = decodes way κs limit input store r store′ known p in
     answer-of-injective r (decoder.Refused why)

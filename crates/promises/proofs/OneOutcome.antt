@@ -72,7 +72,9 @@ use Rattle.front.proofs.first_avp.Reads as first-avp
 use Rattle.front.proofs.parse.Reads as front-parse
 use Rattle.front.proofs.pads.Reads as pads
 use Rattle.front.proofs.tiles.Reads as tiles
-use Rattle.reader.proofs.Step.answer.Reads as step-answer
+use Rattle.steps.proofs.Step.answer.Reads as step-answer
+use Rattle.steps.proofs.step_at.Reads as step-at
+use Rattle.steps.proofs.find_from.Reads as find-from
 use Rattle.reader.proofs.next.Reads as next
 use Rattle.reader.proofs.find.Reads as find
 use Rattle.record.proofs.Record.get.Reads as record-get
@@ -103,7 +105,7 @@ use Rattle.tandrekily.proofs.tandrekily_integer32.Reads as tandrekily-integer32
 use Rattle.tandrekily.proofs.tandrekily_integer64.Reads as tandrekily-integer64
 use Rattle.header.proofs.AnswerOf as header-answers
 use Rattle.front.proofs.AnswerOf as front-answers
-use Rattle.reader.proofs.AnswerOf as reader-answers
+use Rattle.steps.proofs.AnswerOf as steps-answers
 use Rattle.unit_value.proofs.AnswerOf as unit-value-answers
 use Rattle.value.proofs.ReadAs.{one-value}
 use Rattle.count.proofs.AnswerOf as count-answers
@@ -325,10 +327,18 @@ pads-one κs a r r′ s p q = p ∙ sym q
 tiles-one : Single tiles.Post
 tiles-one κs a r r′ s p q = p ∙ sym q
 
--- ---- reader
+-- ---- steps
 
 step-answer-one : Single step-answer.Post
 step-answer-one κs a r r′ s p q = p ∙ sym q
+
+step-at-one : Single step-at.Post
+step-at-one κs a r r′ s p q = p ∙ sym q
+
+find-from-one : Single find-from.Post
+find-from-one κs a r r′ s p q = p ∙ sym q
+
+-- ---- reader
 
 reader-new-one : (message : Slice) (r r′ : Reader) → ReaderNew message r → ReaderNew message r′ → r ≡ r′
 reader-new-one message r r′ p q = whole (p .0 ∙ sym (q .0)) (p .1 ∙ sym (q .1))
@@ -347,7 +357,7 @@ next-one : Single next.Post
 next-one κs a r r′ s p q = p ∙ sym q
 
 find-one : Single find.Post
-find-one κs a r r′ s p q = reader-answers.answer-of-injective r r′ (p ∙ sym q)
+find-one κs a r r′ s p q = steps-answers.answer-of-injective r r′ (p ∙ sym q)
 
 -- ---- record
 

@@ -19,7 +19,7 @@ use Rattle.rfc6733.specs.Search.{sought}
 use Rattle.rfc6733.proofs.Sought.{stuck, first, sought-past}
 use Rattle.header.specs.declared.Header.{Header}
 use Rattle.header.proofs.Bodies.{Body}
-use Rattle.reader.specs.Reading.{moved, findAt, foundOf, answerOf}
+use Rattle.steps.specs.Steps.{moved, findAt, foundOf, answerOf}
 
 -- what is found of a payload, told of its message
 told : (at : ℕ) (t : Tree) (x : Option Outline)

@@ -32,14 +32,14 @@ use denote.Struct.Steps.{spelt}
 use denote.Struct.Values.{Values}
 use Rattle.reader.specs.Reading.{placed}
 use Rattle.reader.specs.declared.Reader.{Reader}
-use Rattle.reader.specs.declared.Step.{Step}
-use Rattle.reader.specs.declared.Stepped.{Stepped}
+use Rattle.steps.specs.declared.Step.{Step}
+use Rattle.steps.specs.declared.Stepped.{Stepped}
 use Rattle.reader.proofs.Reader as T
 use Rattle.reader.proofs.Reader.Laws as T′
-use Rattle.reader.proofs.Stepped as P
-use Rattle.reader.proofs.Stepped.Laws as P′
-use Rattle.reader.proofs.Step as S
-use Rattle.reader.proofs.Step.Laws as S′
+use Rattle.steps.proofs.Stepped as P
+use Rattle.steps.proofs.Stepped.Laws as P′
+use Rattle.steps.proofs.Step as S
+use Rattle.steps.proofs.Step.Laws as S′
 
 -- in `next<'s>(&'s mut self)` the reference to the struct has the first lifetime, and 'a is the second
 abbrev pub α : Lft → NamedLft

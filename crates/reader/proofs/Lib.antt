@@ -1,5 +1,2 @@
-mod Over
-mod Steps
 mod Held
 mod Answered
-pub mod AnswerOf

@@ -7,10 +7,10 @@ use avps::Filled;
 use diameter::Decoded;
 use header::Header;
 use header::Parsed;
-use reader::Found;
 use record::outline::Outline;
 use record::written::Written;
 use refusal::Refusal;
+use steps::Found;
 use unit_value::Ordering;
 ghost use mathlib.Core.Path.{_≡_};
 ghost use Rattle.header.specs.Parsed as header;
@@ -18,7 +18,7 @@ ghost use Rattle.header.specs.Parsed.{headerAs};
 ghost use Rattle.avps.specs.Answers as avps;
 ghost use Rattle.avps.specs.Answers.{countsAs};
 ghost use Rattle.diameter.specs.Answers.{answerOf};
-ghost use Rattle.reader.specs.Reading as reader;
+ghost use Rattle.steps.specs.Steps as steps;
 ghost use Rattle.record.specs.Written as written;
 ghost use Rattle.results.specs.Results.{result, refusal, messageResult, avpResult, writtenResult, outlineResult, foundResult, signOf};
 
@@ -165,7 +165,7 @@ fn lay_outline(number: u64, amount: usize, found: u64, o: Outline) -> [u64; OUTL
 
 /// What a search or a step answers.
 pub fn of_found(f: Found) -> [u64; OUTLINE]
-    ensures { λ r. ⌜ r ≡ foundResult (reader.answerOf f) ⌝ }
+    ensures { λ r. ⌜ r ≡ foundResult (steps.answerOf f) ⌝ }
 {
     match f {
         Found::At(o) => lay_outline(0, 0, 1, o),

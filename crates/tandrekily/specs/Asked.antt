@@ -12,8 +12,8 @@ use Rattle.record.specs.Counts.{Counts}
 use Rattle.rfc6733.specs.Editions.{decodedBy, avpAloneBy}
 use Rattle.record.specs.Store.{room, stored, output}
 use Rattle.rfc6733.specs.Writer.{Fields, written, tableBytes}
-use Rattle.reader.specs.declared.Stepped.{Stepped}
-use Rattle.reader.specs.Reading.{foundOf, answerOf}
+use Rattle.steps.specs.declared.Stepped.{Stepped}
+use Rattle.steps.specs.Steps.{foundOf, answerOf}
 use Rattle.unit_value.specs.declared.Ordering.{Ordering}
 use Rattle.unit_value.specs.UnitValues.{compared}
 use Rattle.attribute.specs.Attributes.{dictionary}

@@ -15,7 +15,7 @@ ghost use Rattle.rfc3629.specs.Utf8.{wellFormed, validUpTo};
 ghost use Rattle.rfc6733.specs.Decoder.{headerAlone};
 ghost use Rattle.rfc6733.specs.Search.{sought};
 ghost use Rattle.rfc6733.specs.Signed.{signed, unixSeconds};
-ghost use Rattle.reader.specs.Reading.{stepAt};
+ghost use Rattle.steps.specs.Steps.{stepAt};
 ghost use Rattle.results.specs.Results.{messageResult, avpResult, foundResult};
 ghost use Rattle.tandrekily.specs.Asked.{readingOf, stepResult, messageAsked, avpAsked, messageAskedBy, avpAskedBy, writeResult, messageStore, avpStore, messageStoreBy, avpStoreBy, writeOutput, numberShown, orderShown, comparedGiven};
 

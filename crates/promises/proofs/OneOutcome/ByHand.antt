@@ -14,7 +14,7 @@ use contract.Monad.{Fun, fact}
 use denote.Ref.{RefT, now}
 use Rattle.rfc6733.specs.Header.{headerSize}
 use Rattle.reader.specs.declared.Reader.{Reader}
-use Rattle.reader.specs.declared.Step.{Step}
+use Rattle.steps.specs.declared.Step.{Step}
 use Rattle.reader.specs.Reading.{stepOf, findOf, Went}
 use Rattle.reader.proofs.Reader.new as reader-new
 use Rattle.reader.proofs.Reader.next as reader-next

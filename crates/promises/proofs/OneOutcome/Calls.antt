@@ -29,7 +29,7 @@ use Rattle.unit_value.specs.declared.UnitValue.{UnitValue}
 use Rattle.unit_value.specs.declared.Compared.{Compared}
 use Rattle.unit_value.proofs.compare.Reads as compare
 use Rattle.lines.proofs.dump.Reads as dump
-use Rattle.reader.specs.declared.Found.{Found}
+use Rattle.steps.specs.declared.Found.{Found}
 use Rattle.reader.proofs.find.Reads as find
 use Rattle.writer.specs.declared.Fields.{Fields}
 use Rattle.record.specs.declared.written.Written.{Written}

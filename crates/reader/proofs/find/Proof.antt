@@ -6,7 +6,7 @@ use denote.Ref.{now}
 use borrow.Author.Needs.{needs}
 use Rattle.header.specs.Parsed as header
 use Rattle.header.proofs.Bodies.{Body, body}
-use Rattle.reader.specs.Reading.{foundOf, answerOf}
+use Rattle.steps.specs.Steps.{foundOf, answerOf}
 use Rattle.reader.proofs.Answered.{asked, header-refused}
 use Rattle.reader.proofs.find.Statement.{statement}
 use Rattle.reader.proofs.find.Tie as tie

@@ -46,16 +46,17 @@ use denote.Triple.Table.{entered, cited}
 use denote.Triple.Walked.{says, Stays, stay-none, stay-none-slice, walkOf, goes-none, goes-none-slice, Walks, ends-at, walked, walk-meets}
 use denote.Exit.{yes}
 use denote.Triple.Clauses.{ensured, lasts}
-use Rattle.reader.specs.Reading.{stepAt, stepOf, Went}
+use Rattle.steps.specs.Steps.{stepAt}
+use Rattle.reader.specs.Reading.{stepOf, Went}
 use Rattle.reader.specs.declared.Reader.{Reader}
-use Rattle.reader.specs.declared.Step.{Step}
-use Rattle.reader.specs.declared.Stepped.{Stepped}
+use Rattle.steps.specs.declared.Step.{Step}
+use Rattle.steps.specs.declared.Stepped.{Stepped}
 use Rattle.reader.proofs.Held.{B, D, L, Own, P-val, S-val, lies-in, lies-out}
 use Rattle.reader.proofs.Reader.Laws as T′
-use Rattle.reader.proofs.Step as S
-use Rattle.reader.proofs.Step.Laws as S′
-use Rattle.reader.proofs.Stepped as P
-use Rattle.reader.proofs.Stepped.Laws as P′
+use Rattle.steps.proofs.Step as S
+use Rattle.steps.proofs.Step.Laws as S′
+use Rattle.steps.proofs.Stepped as P
+use Rattle.steps.proofs.Stepped.Laws as P′
 use Rattle.reader.proofs.Reader.next as step
 use Rattle.reader.proofs.Reader.next.Symbol as step-def
 use Rattle.reader.proofs.Reader.next.Symbol.{name as #reader·Reader·next}

@@ -1,6 +1,6 @@
 -- `of_found` meets its contract: each arm lays out the answer of its case.
 use borrow.Author.Needs.{needs}
-use Rattle.reader.specs.Reading.{answerOf}
+use Rattle.steps.specs.Steps.{answerOf}
 use Rattle.results.specs.Results.{foundResult}
 use Rattle.results.proofs.of_found.Statement.{statement}
 use Rattle.results.proofs.of_found.Tie as tie

@@ -1,7 +1,7 @@
 -- `tandrekily_next` meets its contract: it lays out what `reader::next` finds, and answers the place.
 use mathlib.Core.Path.{ap}
 use borrow.Author.Needs.{needs}
-use Rattle.reader.specs.declared.Stepped.{Stepped}
+use Rattle.steps.specs.declared.Stepped.{Stepped}
 use Rattle.tandrekily.proofs.tandrekily_next.Statement.{statement}
 use Rattle.tandrekily.proofs.tandrekily_next.Tie as tie
 

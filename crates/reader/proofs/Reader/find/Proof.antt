@@ -42,17 +42,17 @@ use denote.Exit.{yes}
 use denote.Triple.Clauses.{ensured, lasts}
 use Rattle.reader.specs.Reading.{findOf, placed}
 use Rattle.reader.specs.declared.Reader.{Reader}
-use Rattle.reader.specs.declared.Stepped.{Stepped}
+use Rattle.steps.specs.declared.Stepped.{Stepped}
 use Rattle.reader.proofs.Held.{B, D, L, Own, behind, P-val, S-val, payload-out, again, found-out}
 use Rattle.reader.proofs.Reader.Laws as T′
-use Rattle.reader.proofs.Stepped as P
-use Rattle.reader.proofs.Stepped.Laws as P′
-use Rattle.reader.proofs.Step as S
-use Rattle.reader.proofs.Step.Laws as S′
-use Rattle.reader.proofs.find_from as from′
-use Rattle.reader.proofs.find_from.Symbol as from-def
-use Rattle.reader.proofs.find_from.Symbol.{name as #reader·find-from}
-use Rattle.reader.proofs.find_from.Met as from-thm
+use Rattle.steps.proofs.Stepped as P
+use Rattle.steps.proofs.Stepped.Laws as P′
+use Rattle.steps.proofs.Step as S
+use Rattle.steps.proofs.Step.Laws as S′
+use Rattle.steps.proofs.find_from as from′
+use Rattle.steps.proofs.find_from.Symbol as from-def
+use Rattle.steps.proofs.find_from.Symbol.{name as #reader·find-from}
+use Rattle.steps.proofs.find_from.Met as from-thm
 use Rattle.reader.proofs.Reader.find.Key.{name as #reader·Reader·find}
 use Rattle.reader.proofs.Reader.find as find
 use Rattle.reader.proofs.Reader.find.Statement as stated
@@ -154,4 +154,4 @@ find-spec 𝓤 H 𝓜 𝓖 𝓡 =
     entered 𝓤 H (tripleOf 𝓤 H (𝓖 .A) find.signature (find.spec 𝓤 H (𝓖 .A) (𝓜 .mem) (𝓡 .run)))
     (tables 𝓤 H 𝓜 𝓡 code.env .C) (tables 𝓤 H 𝓜 𝓡 code.env .Λ) #reader·Reader·find code.function (code.unfolded 𝓤 H 𝓜 𝓡)
     (find-meets 𝓤 H (𝓖 .A) (givenOf 𝓤 H 𝓜 𝓖) (𝓜 .mem) (𝓡 .run) (tablesOf 𝓤 H 𝓜 (tables 𝓤 H 𝓜 𝓡 code.env))
-    (cited 𝓤 H (FindFrom 𝓤 H (𝓖 .A) (𝓜 .mem) (𝓡 .run)) 𝓜 𝓡 code.env #reader·find-from from-def.routine code.calls-reader·find-from (from-thm.met 𝓤 H 𝓜 𝓖 𝓡)))
+    (cited 𝓤 H (FindFrom 𝓤 H (𝓖 .A) (𝓜 .mem) (𝓡 .run)) 𝓜 𝓡 code.env #reader·find-from from-def.routine code.calls-steps·find-from (from-thm.met 𝓤 H 𝓜 𝓖 𝓡)))

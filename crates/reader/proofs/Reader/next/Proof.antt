@@ -42,17 +42,17 @@ use denote.Triple.Walked.{says, Stays, stay-ref, walkOf, goes-ref, Walks, ends-a
 use denote.Triple.Clauses.{ensured, lasts}
 use Rattle.reader.specs.Reading.{stepOf, placed}
 use Rattle.reader.specs.declared.Reader.{Reader}
-use Rattle.reader.specs.declared.Stepped.{Stepped}
+use Rattle.steps.specs.declared.Stepped.{Stepped}
 use Rattle.reader.proofs.Held.{B, D, L, Own, behind, P-val, S-val, payload-out, again, found-out}
 use Rattle.reader.proofs.Reader.Laws as T′
-use Rattle.reader.proofs.Stepped as P
-use Rattle.reader.proofs.Stepped.Laws as P′
-use Rattle.reader.proofs.Step as S
-use Rattle.reader.proofs.Step.Laws as S′
-use Rattle.reader.proofs.step_at as step
-use Rattle.reader.proofs.step_at.Symbol as step-def
-use Rattle.reader.proofs.step_at.Symbol.{name as #reader·step-at}
-use Rattle.reader.proofs.step_at.Met as step-thm
+use Rattle.steps.proofs.Stepped as P
+use Rattle.steps.proofs.Stepped.Laws as P′
+use Rattle.steps.proofs.Step as S
+use Rattle.steps.proofs.Step.Laws as S′
+use Rattle.steps.proofs.step_at as step
+use Rattle.steps.proofs.step_at.Symbol as step-def
+use Rattle.steps.proofs.step_at.Symbol.{name as #reader·step-at}
+use Rattle.steps.proofs.step_at.Met as step-thm
 use Rattle.reader.proofs.Reader.next.Key.{name as #reader·Reader·next}
 use Rattle.reader.proofs.Reader.next as next
 use Rattle.reader.proofs.Reader.next.Statement as stated
@@ -154,4 +154,4 @@ next-spec 𝓤 H 𝓜 𝓖 𝓡 =
     entered 𝓤 H (tripleOf 𝓤 H (𝓖 .A) next.signature (next.spec 𝓤 H (𝓖 .A) (𝓜 .mem) (𝓡 .run)))
     (tables 𝓤 H 𝓜 𝓡 code.env .C) (tables 𝓤 H 𝓜 𝓡 code.env .Λ) #reader·Reader·next code.function (code.unfolded 𝓤 H 𝓜 𝓡)
     (next-meets 𝓤 H (𝓖 .A) (givenOf 𝓤 H 𝓜 𝓖) (𝓜 .mem) (𝓡 .run) (tablesOf 𝓤 H 𝓜 (tables 𝓤 H 𝓜 𝓡 code.env))
-    (cited 𝓤 H (StepAt 𝓤 H (𝓖 .A) (𝓜 .mem) (𝓡 .run)) 𝓜 𝓡 code.env #reader·step-at step-def.routine code.calls-reader·step-at (step-thm.met 𝓤 H 𝓜 𝓖 𝓡)))
+    (cited 𝓤 H (StepAt 𝓤 H (𝓖 .A) (𝓜 .mem) (𝓡 .run)) 𝓜 𝓡 code.env #reader·step-at step-def.routine code.calls-steps·step-at (step-thm.met 𝓤 H 𝓜 𝓖 𝓡)))

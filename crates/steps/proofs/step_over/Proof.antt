@@ -8,9 +8,9 @@ use borrow.Author.Needs.{needs}
 use Rattle.octets.proofs.Numbers.{be-small}
 use Rattle.rfc6733.proofs.Complete.{sizes}
 use Rattle.front.proofs.Fronts.{Turn, turn-at}
-use Rattle.reader.proofs.Over.{stepped-over}
-use Rattle.reader.proofs.step_over.Statement.{statement}
-use Rattle.reader.proofs.step_over.Tie as tie
+use Rattle.steps.proofs.Over.{stepped-over}
+use Rattle.steps.proofs.step_over.Statement.{statement}
+use Rattle.steps.proofs.step_over.Tie as tie
 
 -- the AVP at its place
 standing : (b : tie.Start) → Turn (now (b .args .payload)) (b .args .at) (b .args .a)

@@ -18,8 +18,8 @@ use Rattle.rfc6733.proofs.Complete.{head, sizes}
 use Rattle.rfc6733.proofs.Items.{item-same}
 use Rattle.avp.specs.declared.AVP.{AVP}
 use Rattle.front.proofs.Fronts.{Turn}
-use Rattle.reader.specs.declared.Step.the-variants.{At}
-use Rattle.reader.specs.Reading.{past, onto}
+use Rattle.steps.specs.declared.Step.the-variants.{At}
+use Rattle.steps.specs.Steps.{past, onto}
 
 -- as the code makes it, of an AVP at a place, its header's size and its padding
 abbrev pub made : AVP → ℕ → ℕ → ℕ → Outline

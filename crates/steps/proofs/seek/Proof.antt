@@ -7,9 +7,9 @@ use lib.ListN.{length}
 use denote.Ref.{now}
 use borrow.Author.Needs.{needs}
 use Rattle.front.proofs.Fronts.{Turn, turn, stuck}
-use Rattle.reader.proofs.Steps.{Seeking, starts, stops-at-end, stops-at-broken, stops-at-code, goes-on}
-use Rattle.reader.proofs.seek.Statement.{statement}
-use Rattle.reader.proofs.seek.Tie as tie
+use Rattle.steps.proofs.Steps.{Seeking, starts, stops-at-end, stops-at-broken, stops-at-code, goes-on}
+use Rattle.steps.proofs.seek.Statement.{statement}
+use Rattle.steps.proofs.seek.Tie as tie
 
 abbrev Inv-loop : tie.InvT-loop
 Inv-loop payload place code at₀ at = Seeking code payload place at

@@ -22,11 +22,11 @@ use Rattle.rfc6733.proofs.Tiling.{tiling-none, tiling-broken, tiling-more}
 use Rattle.rfc6733.proofs.Outlines.{outlines-none, outlines-broken, outlines-more}
 use Rattle.avp.specs.declared.AVP.{AVP}
 use Rattle.front.proofs.Fronts.{Turn, next-is}
-use Rattle.reader.specs.declared.Step.{Step}
-use Rattle.reader.specs.declared.Step.the-variants.{At, Broken, End}
-use Rattle.reader.specs.declared.Stepped.{Stepped}
-use Rattle.reader.specs.Reading.{onto, moved, first, stepAt, findAt, Stops}
-use Rattle.reader.proofs.Step.{the-type}
+use Rattle.steps.specs.declared.Step.{Step}
+use Rattle.steps.specs.declared.Step.the-variants.{At, Broken, End}
+use Rattle.steps.specs.declared.Stepped.{Stepped}
+use Rattle.steps.specs.Steps.{onto, moved, first, stepAt, findAt, Stops}
+use Rattle.steps.proofs.Step.{the-type}
 
 -- ---- a step
 

@@ -4,9 +4,9 @@ use mathlib.Core.Path.{_≡_, refl, sym, ap, _∙_}
 use mathlib.Core.Option.{Option, none, some}
 use Rattle.refusal.specs.Answer.{Answer, accepted, refused}
 use Rattle.record.specs.Outline.{Outline}
-use Rattle.reader.specs.declared.Found.{Found}
-use Rattle.reader.specs.declared.Found.the-variants.{At, None, Refused}
-use Rattle.reader.specs.Reading.{answerOf}
+use Rattle.steps.specs.declared.Found.{Found}
+use Rattle.steps.specs.declared.Found.the-variants.{At, None, Refused}
+use Rattle.steps.specs.Steps.{answerOf}
 
 abbrev pub outcome-back : Answer (Option Outline) → Found
 outcome-back (accepted (some o)) = At o

@@ -1,8 +1,8 @@
 -- `find_from` meets its contract: where the search stops, a step finds what was sought, or says why there is none.
 use borrow.Author.Needs.{needs}
-use Rattle.reader.proofs.Steps.{found-there, none-there}
-use Rattle.reader.proofs.find_from.Statement.{statement}
-use Rattle.reader.proofs.find_from.Tie as tie
+use Rattle.steps.proofs.Steps.{found-there, none-there}
+use Rattle.steps.proofs.find_from.Statement.{statement}
+use Rattle.steps.proofs.find_from.Tie as tie
 
 returns : tie.Need-returns
 returns c =

@@ -1,8 +1,8 @@
 -- `Step::answer` meets its contract: each arm is its case of the definition.
 use borrow.Author.Needs.{needs}
-use Rattle.reader.specs.Reading.{foundOf}
-use Rattle.reader.proofs.Step.answer.Statement.{statement}
-use Rattle.reader.proofs.Step.answer.Tie as tie
+use Rattle.steps.specs.Steps.{foundOf}
+use Rattle.steps.proofs.Step.answer.Statement.{statement}
+use Rattle.steps.proofs.Step.answer.Tie as tie
 
 returns : tie.Need-returns
 unfolding foundOf

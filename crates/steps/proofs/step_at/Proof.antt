@@ -5,9 +5,9 @@ use native.Mathlib.Omega.{arith}
 use denote.Ref.{now}
 use borrow.Author.Needs.{needs}
 use Rattle.front.proofs.Fronts.{Turn, turn, stuck}
-use Rattle.reader.proofs.Steps.{ended, stuck-at, steps}
-use Rattle.reader.proofs.step_at.Statement.{statement}
-use Rattle.reader.proofs.step_at.Tie as tie
+use Rattle.steps.proofs.Steps.{ended, stuck-at, steps}
+use Rattle.steps.proofs.step_at.Statement.{statement}
+use Rattle.steps.proofs.step_at.Tie as tie
 
 -- the AVP at the place
 turned : (c : tie.After-known-told)

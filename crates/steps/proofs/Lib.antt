@@ -1,0 +1,3 @@
+mod Over
+mod Steps
+pub mod AnswerOf
