@@ -1,17 +1,11 @@
 -- The answer of the decoder of messages, as one of the definition.
 use Prim.Native.Nat.{ℕ}
 use mathlib.Core.Path.{_≡_}
-use mathlib.Core.Bool.{true, cond}
 use mathlib.Core.List.{List}
-use Rattle.rfc6733.specs.Avp.{avpSize, complete}
-use Rattle.refusal.specs.Answer.{Refusal, Answer, accepted, refused}
-use Rattle.refusal.specs.declared.Refusal.the-variants.{BadDepth, BadEdition}
+use Rattle.refusal.specs.Answer.{Answer, accepted, refused}
 use Rattle.rfc6733.specs.Decoder as definition
-use Rattle.rfc6733.specs.Decoder.{allowed}
 use Rattle.record.specs.Store.{stored}
 use Rattle.rfc6733.specs.Dictionary.{Dictionary}
-use Rattle.avps.specs.declared.Filled.{Filled}
-use Rattle.avps.specs.Answers as avps
 use Rattle.header.specs.declared.Header.{Header}
 use Rattle.header.specs.declared.Parsed.the-variants as parsed
 use Rattle.header.specs.Parsed as header
@@ -24,15 +18,6 @@ use Rattle.diameter.specs.declared.Decoded.the-variants.{Accepted, Refus
 pub record Headed (h : Header) (e : ℕ) (s : List ℕ) : Type 0 where
   pub is : header.answerOf (parsed.Accepted h e) ≡ definition.headerAlone s
 
--- an AVP at the front that is complete, of so many bytes
-pub record Complete (size : ℕ) (s : List ℕ) : Type 0 where
-  pub whole : complete s ≡ true
-  pub size-is : size ≡ avpSize s
-
--- how a number that is no edition is refused: for the limit, or else as BadEdition
-abbrev pub noEdition : ℕ → Refusal
-noEdition limit = cond (allowed limit) BadEdition BadDepth
-
 unfoldable pub messageAs : Message → definition.Message
 messageAs m =
     record {
@@ -44,11 +29,6 @@ unfoldable pub answerOf : Decoded → Answer definition.Message
 answerOf (Accepted m) = accepted (messageAs m)
 answerOf (Refused r) = refused r
 
--- ---- the store afterwards
-
--- of a message, and of one AVP alone
+-- the store afterwards
 abbrev pub storeAfter : Dictionary → List ℕ → List ℕ → Decoded → List ℕ
 storeAfter D input store r = stored (answerOf r) (definition.messageRecords D input) store
-
-abbrev pub storeAfterAvp : Dictionary → List ℕ → List ℕ → Filled → List ℕ
-storeAfterAvp D input store r = stored (avps.answerOf r) (definition.aloneRecords D input) store

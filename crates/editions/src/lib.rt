@@ -8,8 +8,9 @@ use kinds::ADDED_FIRST;
 use kinds::FIRST;
 use kinds::KINDS;
 use record::kinds::UNHANDLED;
+use refusal::Refusal;
 ghost use mathlib.Core.Path.{_≡_};
-ghost use Rattle.editions.specs.Editions.{chosen, kindTable};
+ghost use Rattle.editions.specs.Editions.{chosen, noEdition, kindTable};
 
 /// An edition. Older gateways stay with RFC 4006.
 pub enum Edition {
@@ -54,5 +55,16 @@ impl Edition {
         };
         bytes::copy(&ADDED, &mut kinds[ADDED_FIRST..]);
         kinds
+    }
+}
+
+/// How a number that is no edition is refused: the limit comes first.
+pub fn no_edition(limit: usize) -> Refusal
+    ensures { λ r. ⌜ r ≡ noEdition limit ⌝ }
+{
+    if count::allowed(limit) {
+        Refusal::BadEdition
+    } else {
+        Refusal::BadDepth
     }
 }

@@ -22,7 +22,7 @@ use Rattle.avps.proofs.AnswerOf as avps-answer-of
 use Rattle.diameter.specs.declared.Decoded.{Decoded}
 use Rattle.diameter.specs.declared.Decoded.the-variants as diameter
 use Rattle.diameter.specs.Answers as diameter-answers
-use Rattle.diameter.specs.Answers.{noEdition}
+use Rattle.editions.specs.Editions.{noEdition}
 use Rattle.diameter.proofs.AnswerOf as diameter-answer-of
 use Rattle.promises.proofs.OneOutcome.Calls.{Slice, Parse, ParseAvp, ParseBy, ParseAvpBy}
 

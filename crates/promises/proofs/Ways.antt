@@ -31,7 +31,8 @@ use Rattle.avps.specs.declared.Counts.{Counts}
 use Rattle.avps.specs.declared.Filled.{Filled}
 use Rattle.avps.specs.declared.Filled.the-variants as filled
 use Rattle.avps.specs.Answers as avps
-use Rattle.diameter.specs.Answers.{answerOf, messageAs, storeAfter, storeAfterAvp}
+use Rattle.diameter.specs.Answers.{answerOf, messageAs, storeAfter}
+use Rattle.avp_alone.specs.Answers.{storeAfterAvp}
 use Rattle.promises.proofs.OneOutcome.Calls.{Slice, Parse, ParseAvp, ParseBy, ParseAvpBy}
 
 pub data Way : Type 0 where

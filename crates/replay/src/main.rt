@@ -135,7 +135,7 @@ fn avp_by(limit: usize, input: &[u8], store: &mut [u8]) {
     if input.len() < NUMBER {
         return;
     }
-    write_avp(diameter::parse_avp_by(number_of(input), limit, &input[NUMBER..], store));
+    write_avp(avp_alone::parse_avp_by(number_of(input), limit, &input[NUMBER..], store));
 }
 
 fn find(input: &[u8]) {
@@ -283,7 +283,7 @@ fn answer(frame: [u8; FRAME_SIZE], input: &[u8], store: &mut [u8]) {
     match function {
         0 => write_message(diameter::parse(reading, limit, input, store)),
         1 => header_alone(input),
-        2 => write_avp(diameter::parse_avp(reading, limit, input, store)),
+        2 => write_avp(avp_alone::parse_avp(reading, limit, input, store)),
         4 => find(input),
         5 => steps(input),
         6 => message_by(limit, input, store),

@@ -75,7 +75,7 @@ pub extern "C" fn tandrekily_avp(
     ensures result { λ _. ⌜ now (result .exit) ≡ avpResult (avpAsked rfc limit (now (store .entry)) (now (input .entry))) ⌝ }
     ensures store { λ _. ⌜ now (store .exit) ≡ avpStore rfc limit (now (store .entry)) (now (input .entry)) ⌝ }
 {
-    *result = results::of_avp(diameter::parse_avp(reading_of(rfc), limit, input, store));
+    *result = results::of_avp(avp_alone::parse_avp(reading_of(rfc), limit, input, store));
 }
 
 /// The same by an edition of the credit-control dictionary, 4006 or 8506.
@@ -90,7 +90,7 @@ pub extern "C" fn tandrekily_avp_by(
     ensures result { λ _. ⌜ now (result .exit) ≡ avpResult (avpAskedBy edition limit (now (store .entry)) (now (input .entry))) ⌝ }
     ensures store { λ _. ⌜ now (store .exit) ≡ avpStoreBy edition limit (now (store .entry)) (now (input .entry)) ⌝ }
 {
-    *result = results::of_avp(diameter::parse_avp_by(edition, limit, input, store));
+    *result = results::of_avp(avp_alone::parse_avp_by(edition, limit, input, store));
 }
 
 /// The first AVP with this code at the top level of the message at the front of `input`.

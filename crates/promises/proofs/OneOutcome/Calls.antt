@@ -21,9 +21,9 @@ use Rattle.avps.specs.declared.Filled.{Filled}
 use Rattle.avps.proofs.parse_avps.Reads as parse-avps
 use Rattle.diameter.specs.declared.Decoded.{Decoded}
 use Rattle.diameter.proofs.parse.Reads as parse
-use Rattle.diameter.proofs.parse_avp.Reads as parse-avp
+use Rattle.avp_alone.proofs.parse_avp.Reads as parse-avp
 use Rattle.diameter.proofs.parse_by.Reads as parse-by
-use Rattle.diameter.proofs.parse_avp_by.Reads as parse-avp-by
+use Rattle.avp_alone.proofs.parse_avp_by.Reads as parse-avp-by
 use Rattle.signed.proofs.unix_seconds.Reads as unix-seconds
 use Rattle.unit_value.specs.declared.UnitValue.{UnitValue}
 use Rattle.unit_value.specs.declared.Compared.{Compared}

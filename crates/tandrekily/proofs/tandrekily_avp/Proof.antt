@@ -1,4 +1,4 @@
--- `tandrekily_avp` meets its contract: in the reading that is asked for, it lays out what `diameter::parse_avp` answers, which fills the store.
+-- `tandrekily_avp` meets its contract: in the reading that is asked for, it lays out what `avp_alone::parse_avp` answers, which fills the store.
 use borrow.Author.Needs.{needs}
 use Rattle.tandrekily.proofs.tandrekily_avp.Statement.{statement}
 use Rattle.tandrekily.proofs.tandrekily_avp.Tie as tie

@@ -1,4 +1,4 @@
--- `tandrekily_avp_by` meets its contract: it lays out what `diameter::parse_avp_by` answers, which fills the store.
+-- `tandrekily_avp_by` meets its contract: it lays out what `avp_alone::parse_avp_by` answers, which fills the store.
 use borrow.Author.Needs.{needs}
 use Rattle.tandrekily.proofs.tandrekily_avp_by.Statement.{statement}
 use Rattle.tandrekily.proofs.tandrekily_avp_by.Tie as tie

@@ -8,9 +8,9 @@ use borrow.Author.Needs.{needs}
 use Rattle.octets.proofs.Numbers.{be-small}
 use Rattle.rfc6733.proofs.Complete.{sizes, complete-whole}
 use Rattle.avps.specs.Answers.{lastPlace}
-use Rattle.diameter.proofs.Ones.{own-records, alone-is}
-use Rattle.diameter.proofs.parse_one.Statement.{statement}
-use Rattle.diameter.proofs.parse_one.Tie as tie
+use Rattle.avp_alone.proofs.Ones.{own-records, alone-is}
+use Rattle.avp_alone.proofs.parse_one.Statement.{statement}
+use Rattle.avp_alone.proofs.parse_one.Tie as tie
 
 -- all of the AVP is there
 there : (b : tie.Start) → b .args .size ≤ length (now (b .args .input))

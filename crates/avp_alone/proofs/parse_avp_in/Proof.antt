@@ -14,8 +14,8 @@ use Rattle.attribute.specs.ByTable.{dictionaryBy}
 use Rattle.avps.specs.Answers as avps
 use Rattle.front.specs.Front as front
 use Rattle.front.proofs.Fronts.{was-accepted, here}
-use Rattle.diameter.proofs.parse_avp_in.Statement.{statement}
-use Rattle.diameter.proofs.parse_avp_in.Tie as tie
+use Rattle.avp_alone.proofs.parse_avp_in.Statement.{statement}
+use Rattle.avp_alone.proofs.parse_avp_in.Tie as tie
 
 abbrev start : tie.After-parse → tie.Start
 start c = c .before .before .before .before .before .before

@@ -7,8 +7,8 @@ use Rattle.record.specs.Store.{stored}
 use Rattle.rfc6733.proofs.Editions.{alone-by, alone-by-none}
 use Rattle.editions.proofs.Dictionaries.{chosen-none, number-by-table}
 use Rattle.avps.specs.Answers.{answerOf}
-use Rattle.diameter.proofs.parse_avp_by.Statement.{statement}
-use Rattle.diameter.proofs.parse_avp_by.Tie as tie
+use Rattle.avp_alone.proofs.parse_avp_by.Statement.{statement}
+use Rattle.avp_alone.proofs.parse_avp_by.Tie as tie
 
 returns : tie.Need-returns
 unfolding answerOf stored

@@ -1,8 +1,8 @@
 -- `parse_avp` meets its contract: the table that it makes, with what is beside it, is the reading's dictionary.
 use borrow.Author.Needs.{needs}
 use Rattle.attribute.proofs.Dictionaries.{dictionary-by-table}
-use Rattle.diameter.proofs.parse_avp.Statement.{statement}
-use Rattle.diameter.proofs.parse_avp.Tie as tie
+use Rattle.avp_alone.proofs.parse_avp.Statement.{statement}
+use Rattle.avp_alone.proofs.parse_avp.Tie as tie
 
 returns : tie.Need-returns
 returns c =

@@ -1,7 +1,7 @@
 -- `no_edition` meets its contract: it asks for the limit, as the definition does.
 use mathlib.Core.Path.{sym, _∙_}
-use Rattle.diameter.proofs.no_edition.Statement.{statement}
-use Rattle.diameter.proofs.no_edition.Tie as tie
+use Rattle.editions.proofs.no_edition.Statement.{statement}
+use Rattle.editions.proofs.no_edition.Tie as tie
 
 returns : tie.Need-returns
 returns c = rw (sym (c .before .allowed .ensures) ∙ c .if1 .taken)

@@ -17,7 +17,7 @@ use Rattle.rfc6733.proofs.Complete.{complete-whole}
 use Rattle.rfc6733.proofs.Decoded.{alone-past}
 use Rattle.avps.specs.Answers.{lastPlace, runAnswer}
 use Rattle.avps.proofs.Answered.{past-limit}
-use Rattle.diameter.specs.Answers.{Complete}
+use Rattle.avp_alone.specs.Answers.{Complete}
 
 module _ (D : Dictionary) (size : ℕ) (s : List ℕ) (w : Complete size s) where
   -- its own bytes
