@@ -18,7 +18,7 @@ use Rattle.rfc6733.specs.Entered.{valueIn, entered}
 use Rattle.avp.specs.declared.AVP.{AVP}
 use Rattle.attribute.specs.declared.Dictionary as attribute
 use Rattle.attribute.specs.ByTable.{dictionaryBy}
-use Rattle.avps.specs.Answers.{lastPlace}
+use Rattle.fits.specs.Fitting.{lastPlace}
 use Rattle.avps.specs.declared.fill.Ran.{Ran}
 use Rattle.avps.specs.declared.fill.Valued.{Valued}
 

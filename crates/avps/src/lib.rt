@@ -33,9 +33,6 @@ pub enum Filled {
     Refused(Refusal),
 }
 
-// A record has four bytes for a place.
-const LAST_PLACE: u32 = 0xffff_ffff;
-
 // Fills the store with the records of the run `s`, which stands at `place`, and with zero after them. Answers their error flags. Where
 // `whole` says so every group tiles.
 fn fill_store(
@@ -69,14 +66,8 @@ pub fn parse_avps(
     ensures answer { λ r. ⌜ answerOf r ≡ runAnswer (dictionaryBy d (now (kinds .entry))) limit (room (now (store .entry))) place (now (s .entry)) ⌝ }
     ensures store { λ r. ⌜ now (store .exit) ≡ storeAfterRun (dictionaryBy d (now (kinds .entry))) place (now (s .entry)) (now (store .entry)) r ⌝ }
 {
-    if ((LAST_PLACE - place) as usize) < s.len() {
-        return Filled::Refused(Refusal::TooLong);
-    }
-    match count::count_run(d, kinds, s, limit) {
+    match fits::count_fitting(d, kinds, limit, s, place, store.len() / Record::SIZE) {
         Counted::Fits { records, tried } => {
-            if store.len() / Record::SIZE < records {
-                return Filled::Refused(Refusal::NoRecords(records));
-            }
             // as many records as headers tried: every group tiles (rfc6733/proofs/AllTile)
             let errors = fill_store(d, records == tried, kinds, s, place as usize, store);
             Filled::Accepted(Counts {

@@ -52,6 +52,7 @@ use Rattle.attribute.proofs.Reading.dictionary.Reads as reading-dictionary
 use Rattle.attribute.proofs.kind_table.Reads as kind-table
 use Rattle.attribute.proofs.kind.Reads as kind
 use Rattle.editions.proofs.Edition.by_number.Reads as by-number
+use Rattle.editions.proofs.no_edition.Reads as no-edition
 use Rattle.editions.proofs.Edition.kind_table.Reads as edition-kind-table
 use Rattle.header.proofs.Header.is_request.Reads as is-request
 use Rattle.header.proofs.Header.is_proxiable.Reads as is-proxiable
@@ -85,6 +86,7 @@ use Rattle.value.proofs.Value.kind.Reads as value-kind
 use Rattle.value.proofs.Value.number.Reads as value-number
 use Rattle.count.proofs.allowed.Reads as allowed
 use Rattle.count.proofs.count_run.Reads as count-run
+use Rattle.fits.proofs.count_fitting.Reads as count-fitting
 use Rattle.rules.proofs.header_size.Reads as record-header-size
 use Rattle.rules.proofs.keepers.Reads as keepers
 use Rattle.radius_value.proofs.types.kind.Reads as type-kind
@@ -261,6 +263,9 @@ kind-one κs a r r′ s p q = p ∙ sym q
 by-number-one : Single by-number.Post
 by-number-one κs a r r′ s p q = p ∙ sym q
 
+no-edition-one : Single no-edition.Post
+no-edition-one κs a r r′ s p q = p ∙ sym q
+
 edition-kind-table-one : Single edition-kind-table.Post
 edition-kind-table-one κs a r r′ s p q = p ∙ sym q
 
@@ -398,6 +403,11 @@ allowed-one κs a r r′ s p q = p ∙ sym q
 
 count-run-one : Single count-run.Post
 count-run-one κs a r r′ s p q = count-answers.answer-of-injective r r′ (p ∙ sym q)
+
+-- ---- fits
+
+count-fitting-one : Single count-fitting.Post
+count-fitting-one κs a r r′ s p q = count-answers.answer-of-injective r r′ (p ∙ sym q)
 
 -- ---- avps
 
