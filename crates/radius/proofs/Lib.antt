@@ -1,6 +1,2 @@
-mod Fronts
-mod Counting
-mod OneRecord
-mod Filling
 mod Packets
 pub mod AnswerOf

@@ -2,30 +2,34 @@
 -- is the run that the definition reads, so the packet is refused as the run is, and else accepted with its counts.
 use Prim.Native.Nat.{ℕ, _-_, _≤_, _<_}
 use mathlib.Core.Path.{_≡_, sym, ap, _∙_}
-use mathlib.Core.Bool.{true, false}
-use mathlib.Core.List.{List, _++_}
+use mathlib.Core.Bool.{true}
+use mathlib.Core.List.{List}
 use native.Mathlib.Omega.{arith}
-use lib.ListN.{length, getD, take, drop}
+use lib.ListN.{length, getD, take, drop, length-take}
 use borrow.Author.Tests.{lt-ltb, le-ltb}
-use Rattle.octets.specs.Run.{Tree, tree, tiles, tried, items}
+use Rattle.octets.specs.Run.{tried, items}
 use Rattle.octets.proofs.Availability.{Missing}
 use Rattle.octets.proofs.Numbers.{one-byte}
 use Rattle.refusal.specs.Answer.{Refusal, accepted, refused, Test, answer, passes}
-use Rattle.refusal.specs.declared.Refusal.the-variants.{Incomplete, BadLength, NotTiled, NoRecords}
-use Rattle.refusal.proofs.Answers.{passed, answer-past, answer-first}
-use Rattle.record.specs.Refusals.{tileRefusals, roomRefusals}
+use Rattle.refusal.specs.declared.Refusal.the-variants.{Incomplete, BadLength}
+use Rattle.refusal.proofs.Answers as answers
+use Rattle.refusal.proofs.Answers.{passed, passes-append, answer-past, answer-first, answer-alike}
+use Rattle.refusal.proofs.Tests.{tests}
 use Rattle.record.specs.Store.{stored}
-use Rattle.rfc2865.specs.Attribute.{attributes}
-use Rattle.rfc2865.specs.Records.{errors}
 use Rattle.rfc2865.specs.Packet as rfc
 use Rattle.rfc2865.specs.Packet.{packetLength, headerOf, headerRefusals, packetBody, run, packetRecords, packetOf, packetRefusals, decoded}
 use Rattle.rfc2865.proofs.Accepted.{headed, when-accepted}
 use Rattle.rfc2865.proofs.Tried.{few, records-length}
+use Rattle.radius_attributes.specs.declared.Counts.{Counts}
+use Rattle.radius_attributes.specs.declared.Filled.{Filled}
+use Rattle.radius_attributes.specs.declared.Filled.the-variants as filled
+use Rattle.radius_attributes.specs.Answers as runs
+use Rattle.radius_attributes.specs.Answers.{runRecords, runCounts, runRefusals, runAnswer}
+use Rattle.radius_attributes.proofs.Answered.{past-places}
 use Rattle.radius.specs.declared.Measured.the-variants as measured
-use Rattle.radius.specs.declared.Packet.{Packet}
-use Rattle.radius.specs.declared.Decoded.the-variants.{Accepted}
+use Rattle.radius.specs.declared.Decoded.{Decoded}
+use Rattle.radius.specs.declared.Decoded.the-variants.{Accepted, Refused}
 use Rattle.radius.specs.Answers.{lengthOf, measuredOf, Measures, packetAs, answerWith}
-use Rattle.radius.specs.Fill.{Cleared}
 
 -- ---- the header
 
@@ -87,59 +91,55 @@ pub header-refused : (room : ℕ) (s : List ℕ) (why : Refusal) → lengthOf (m
 unfolding lengthOf measuredOf decoded packetRefusals
 header-refused room s why e = sym (answer-first (headerRefusals s) _ (packetLength s) (packetOf s) why (sym e))
 
-module _ {n : ℕ} {s : List ℕ} (h : Ready n s) where
-  abbrev body : Tree
-  body = tree attributes (take (n - 20) (drop 20 s))
+-- the contract of `parse_body`, where d is answered with room for so many records
+abbrev Met : ℕ → List ℕ → List ℕ → List ℕ → Decoded → Type 0
+Met room s before after d =
+    let answered = answerWith (headerOf s .authenticator) d in
+    (answered ≡ decoded room s) × (after ≡ stored answered (packetRecords s) before)
 
-  body-is : body ≡ run s
-  body-is = ap (tree attributes) (h .body-is)
+-- what `parse_attributes` answered of the body, as it was lent, and how it left the store
+pub record Ran (n room : ℕ) (s before after : List ℕ) (x : Filled) : Type 0 where
+  pub header : Ready n s
+  pub answered : runs.answerOf x ≡ runAnswer room 20 (take (n - 20) (drop 20 s))
+  pub left : after ≡ stored (runs.answerOf x) (runRecords 20 (take (n - 20) (drop 20 s))) before
 
-  -- the store afterwards
-  pub stores : {e : ℕ} {before after : List ℕ} (authenticator : List ℕ) (p : Packet) → Cleared body 20 e before after
-      → after ≡ stored (answerWith authenticator (Accepted p)) (packetRecords s) before
-  unfolding answerWith stored packetRecords
-  stores authenticator p f = rw (← body-is) (f .store-is)
+module _ {n room : ℕ} {s before after : List ℕ} {x : Filled} (ran : Ran n room s before after x) where
+  abbrev h : Ready n s
+  h = ran .header
 
-  -- with so much room
-  module _ (room : ℕ) where
-    abbrev rest : List Test
-    rest = tileRefusals (run s) ++ roomRefusals room (packetRecords s)
+  -- the refusals past the header
+  abbrev refusals : List Test
+  refusals = runRefusals room 20 (packetBody s)
 
-    past-header : answer rest (packetOf s) ≡ decoded room s
-    unfolding decoded packetRefusals
-    past-header = sym (answer-past (headerRefusals s) rest (packetOf s) (h .passes-all))
+  past-header : answer refusals (packetOf s) ≡ decoded room s
+  unfolding decoded packetRefusals packetRecords
+  past-header = sym (answer-past (headerRefusals s) refusals (packetOf s) (h .passes-all))
 
-    pub not-tiled : tiles body ≡ false → refused NotTiled ≡ decoded room s
-    not-tiled e =
-        let none : tiles (run s) ≡ false = sym (ap tiles body-is) ∙ e in
-        let is : refused NotTiled ≡ answer rest (packetOf s) = rw none in
-        is ∙ past-header
+  -- a packet is short, so the places of its body fit, and these refusals are the run's
+  run-is : runs.answerOf x ≡ answer refusals (runCounts (packetBody s))
+  run-is =
+      let size = sym (ap length (h .body-is)) ∙ length-take (n - 20) (drop 20 s) in
+      ran .answered ∙ ap (runAnswer room 20) (h .body-is) ∙ sym (past-places room 20 (packetBody s) (omega (arith, size, h .least, h .most)))
 
-    module _ (tiled : tiles body ≡ true) (k : ℕ) (k-is : k ≡ length (items body)) where
-      run-tiles : tiles (run s) ≡ true
-      run-tiles = sym (ap tiles body-is) ∙ tiled
+  pub refuses : (why : Refusal) → x ≡ filled.Refused why → Met room s before after (Refused why)
+  unfolding runs.answerOf answerWith stored
+  refuses why is =
+      let e = rw is at run-is in
+      (sym (answer-alike refusals (runCounts (packetBody s)) (packetOf s) why (sym e)) ∙ past-header, rw is at (ran .left))
 
-      count-is : length (items (run s)) ≡ k
-      count-is = sym (k-is ∙ ap (λ (t : Tree). length (items t)) body-is)
-
-      records-are : length (packetRecords s) ≡ k
-      unfolding packetRecords
-      records-are = records-length 20 (items (run s)) ∙ count-is
-
-      pub no-records : room < k → refused (NoRecords k) ≡ decoded room s
-      no-records less =
-          let is : refused (NoRecords k) ≡ answer rest (packetOf s) = rw (run-tiles, records-are, lt-ltb room k less) in
-          is ∙ past-header
-
-      pub accepts : {e : ℕ} → k ≤ room → e ≡ errors (items body)
-          → let p : Packet = record { code = getD s 0 0; identifier = getD s 1 0; errors = e; records = k; tried = k; length = n } in
-          answerWith (headerOf s .authenticator) (Accepted p) ≡ decoded room s
-      unfolding answerWith packetAs packetOf headerOf
-      accepts {e} fits errors-are =
-          let tried-is : tried (run s) ≡ k = few (packetBody s) .own run-tiles ∙ count-is in
-          let errors-is : errors (items (run s)) ≡ e = sym (errors-are ∙ ap (λ (t : Tree). errors (items t)) body-is) in
-          let is : accepted (packetOf s) ≡ answer rest (packetOf s) = rw (run-tiles, records-are, le-ltb room k fits) in
-          ap accepted (rw (records-are, tried-is, errors-is, h .length-is, one-byte s 0, one-byte s 1)) ∙ is ∙ past-header
+  pub accepts : (c : Counts) → x ≡ filled.Accepted c
+      → Met room s before after
+      (Accepted (record { code = getD s 0 0; identifier = getD s 1 0; errors = c .errors; records = c .records; tried = c .records; length = n }))
+  unfolding runs.answerOf answerWith packetAs packetOf headerOf packetRecords stored
+  accepts c is =
+      let p = passed refusals (runCounts (packetBody s)) c (sym (rw is at run-is)) in
+      let t = simp (passes-append, tests) at (p .0) in
+      let tried-is : tried (run s) ≡ length (items (run s)) = few (packetBody s) .own (t .0 .0) in (
+        ap accepted (rw (← (p .1), records-length 20 (items (run s)), tried-is, h .length-is, one-byte s 0, one-byte s 1))
+            ∙ sym (answers.accepts refusals (packetOf s) (p .0))
+            ∙ past-header,
+        rw (is, h .body-is) at (ran .left),
+      )
 
 -- what is accepted has a header
 pub accepted-there : (room : ℕ) (s : List ℕ) (x : rfc.Packet) → decoded room s ≡ accepted x → 20 ≤ length s

@@ -1,32 +1,17 @@
 -- What the reader's functions answer, as answers of the definition.
 use Prim.Native.Nat.{ℕ}
 use mathlib.Core.Path.{_≡_}
-use mathlib.Core.Bool.{cond}
 use mathlib.Core.List.{List}
-use lib.ListN.{length, replicate}
-use Rattle.octets.specs.Run.{Tree, tiles, items}
+use lib.ListN.{replicate}
 use Rattle.refusal.specs.Answer.{Answer, accepted, refused, answer}
-use Rattle.rfc2865.specs.Attribute.{attributeLength, complete}
 use Rattle.rfc2865.specs.Packet as definition
 use Rattle.rfc2865.specs.Packet.{authenticatorSize, packetLength, headerRefusals}
-use Rattle.radius.specs.declared.attributes.First.{First}
-use Rattle.radius.specs.declared.attributes.First.the-variants as first
-use Rattle.radius.specs.declared.attributes.Counted.{Counted}
-use Rattle.radius.specs.declared.attributes.Counted.the-variants as counted
 use Rattle.radius.specs.declared.Measured.{Measured}
 use Rattle.radius.specs.declared.Measured.the-variants as measured
 use Rattle.radius.specs.declared.Packet.{Packet}
 use Rattle.radius.specs.declared.Decoded.{Decoded}
 use Rattle.radius.specs.declared.Decoded.the-variants.{Accepted, Refused}
 use Rattle.radius.specs.declared.Parsed.{Parsed}
-
--- ---- attributes
-
-unfoldable pub firstOf : List ℕ → First
-firstOf s = cond (complete s) (first.Whole (attributeLength s)) first.Broken
-
-unfoldable pub countOf : Tree → Counted
-countOf t = cond (tiles t) (counted.Tiled (length (items t))) counted.Broken
 
 -- ---- the header
 

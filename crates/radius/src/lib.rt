@@ -1,10 +1,7 @@
 // RADIUS (RFC 2865): a packet, from a lent slice to a header, records in a lent store, error flags, counts and a length.
 // The attributes are counted first and nothing is written until they are known to fit, so a refusal has changed no byte.
-mod attributes;
-
-use attributes::Counted;
 use octets::at_hand::Available;
-use record::Record;
+use radius_attributes::Filled;
 use refusal::Refusal;
 ghost use mathlib.Core.Path.{_≡_};
 ghost use Prim.Native.Nat.{_≤_};
@@ -79,22 +76,21 @@ fn parse_body(length: usize, input: &[u8], store: &mut [u8]) -> Decoded
     ensures answer { λ r. ⌜ answerWith (headerOf (now (input .entry)) .authenticator) r ≡ decoded (room (now (store .entry))) (now (input .entry)) ⌝ }
     ensures store { λ r. ⌜ now (store .exit) ≡ stored (answerWith (headerOf (now (input .entry)) .authenticator) r) (packetRecords (now (input .entry))) (now (store .entry)) ⌝ }
 {
-    let body = &input[Packet::HEADER..length];
-    let Counted::Tiled(records) = attributes::count(body) else {
-        return Decoded::Refused(Refusal::NotTiled);
-    };
-    if store.len() / Record::SIZE < records {
-        return Decoded::Refused(Refusal::NoRecords(records));
+    match radius_attributes::parse_attributes(
+        &input[Packet::HEADER..length],
+        Packet::HEADER as u32,
+        store,
+    ) {
+        Filled::Accepted(run) => Decoded::Accepted(Packet {
+            code: input[0],
+            identifier: input[1],
+            errors: run.errors,
+            records: run.records,
+            tried: run.records,
+            length,
+        }),
+        Filled::Refused(why) => Decoded::Refused(why),
     }
-    let errors = attributes::fill_store(body, Packet::HEADER, records, store);
-    Decoded::Accepted(Packet {
-        code: input[0],
-        identifier: input[1],
-        errors,
-        records,
-        tried: records,
-        length,
-    })
 }
 
 // A packet, without its authenticator.

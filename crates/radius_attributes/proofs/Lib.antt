@@ -1,0 +1,6 @@
+mod Fronts
+mod Counting
+mod OneRecord
+mod Filling
+pub mod Answered
+pub mod AnswerOf
