@@ -1,5 +1,5 @@
 -- The loop over a run: what has been written and what is left to write. Each turn puts the record of one attribute right after those
--- before it, so at the end the records of the run stand at the front of the store.
+-- before it, so at the end the records of the run stand at the front of the store, and the rest is cleared.
 use Prim.Native.Nat.{ℕ, _+_, _-_, _*_, _≤_, _<_}
 use mathlib.Core.Path.{_≡_, refl, sym, ap, _∙_}
 use mathlib.Core.Bool.{true}
@@ -7,7 +7,7 @@ use mathlib.Core.Logic.{inl, inr}
 use mathlib.Core.List.{List, [], _++_, append-assoc, append-nil}
 use native.Mathlib.Nat.{add-zero}
 use native.Mathlib.Omega.{arith}
-use lib.ListN.{length, take, drop, length-append, length-drop}
+use lib.ListN.{length, take, drop, replicate, length-append, length-drop}
 use borrow.Rule.Slice.PartMut.{putMid}
 use Rattle.octets.specs.Octets.{over}
 use Rattle.octets.specs.Run.{Tree, item, tree, tiles, items}
@@ -17,11 +17,12 @@ use Rattle.refusal.proofs.Tests.{decide}
 use Rattle.flags.specs.Flags.{join}
 use Rattle.flags.proofs.Joins.{join-assoc, zero-join, join-zero}
 use Rattle.record.specs.Record.{recordSize, recordBytes, laid}
+use Rattle.record.proofs.Cleared.{cleared}
 use Rattle.record.proofs.Layouts.{record-length}
 use Rattle.rfc2865.specs.Attribute.{complete, attributes}
 use Rattle.rfc2865.specs.Records.{recordOf, records, errors}
 use Rattle.rfc2865.proofs.Items.{whole-complete, item-same, item-length, item-whole}
-use Rattle.radius_attributes.specs.Fill.{Own, Put, Room, Recorded}
+use Rattle.radius_attributes.specs.Fill.{Own, Put, Room, Cleared}
 use Rattle.radius_attributes.proofs.Fronts.{Turn}
 use Rattle.radius_attributes.proofs.Counting.{Counting, nothing-counted, one-counted, tree-turn, tree-end, tiles-stuck}
 
@@ -60,13 +61,19 @@ module _ {t : Tree} {place q n e : ℕ} {before now : List ℕ} (s : List ℕ) (
         | inr none ↦ absurd (false-true (sym (tiles-stuck s at some none) ∙ sym (f .counting .tiles-is) ∙ whole))
       ]
 
-  -- where none is left all is written
-  pub all-filled : length s ≤ at → Recorded t place e before now
-  all-filled end =
+  -- where none is left all is written, and what is left of the store was lent and came back as zeros
+  pub all-filled : {m : ℕ} {back : List ℕ} → Room t place m (length before) → length s ≤ at
+      → back ≡ replicate (length (take (length now - n * recordSize) (drop (n * recordSize) now))) 0
+      → Cleared t place e before (putMid (n * recordSize) (length now - n * recordSize) now back)
+  all-filled {back = back} room end zeros =
       let all = rw (tree-end s at end) at f in
+      let new = laid (records place (items t)) in
+      let is : new ≡ all .written = all .records-are ∙ append-nil (all .written) in
+      let size : n * recordSize ≡ length new = sym (ap length is ∙ all .written-length) in
+      let fits : length new ≤ length before = omega (arith, size, all .counting .count-is, room .records-fit) in
       record {
         errors-are = sym (all .errors-are ∙ join-zero e);
-        store-is = rw (all .records-are, append-nil) (all .store-is);
+        store-is = cleared new before now back (n * recordSize) size fits (all .store-is ∙ ap (λ (w : List ℕ). over w before) (sym is)) zeros;
       }
 
 -- ---- one attribute more

@@ -10,18 +10,13 @@ use Rattle.refusal.specs.Answer.{Answer, accepted, refused, Test, refuse, answe
 use Rattle.refusal.specs.declared.Refusal.the-variants.{TooLong}
 use Rattle.record.specs.Record.{Record}
 use Rattle.record.specs.Refusals.{tileRefusals, roomRefusals}
-use Rattle.rfc2865.specs.Attribute.{attributeLength, complete, attributes}
+use Rattle.rfc2865.specs.Attribute.{attributes}
 use Rattle.rfc2865.specs.Records.{records, errors}
-use Rattle.radius_attributes.specs.declared.First.{First}
-use Rattle.radius_attributes.specs.declared.First.the-variants as first
 use Rattle.radius_attributes.specs.declared.Counted.{Counted}
 use Rattle.radius_attributes.specs.declared.Counted.the-variants as counted
 use Rattle.radius_attributes.specs.declared.Counts.{Counts}
 use Rattle.radius_attributes.specs.declared.Filled.{Filled}
 use Rattle.radius_attributes.specs.declared.Filled.the-variants.{Accepted, Refused}
-
-unfoldable pub firstOf : List ℕ → First
-firstOf s = cond (complete s) (first.Whole (attributeLength s)) first.Broken
 
 unfoldable pub countOf : Tree → Counted
 countOf t = cond (tiles t) (counted.Tiled (length (items t))) counted.Broken

@@ -27,12 +27,7 @@ pub record Room (t : Tree) (place n l : ℕ) : Type 0 where
   pub records-fit : length (items t) * recordSize ≤ l
   pub places-fit : place + n ≤ lastPlace
 
--- the records of t stand at the front of the store, and their flags are answered
-pub record Recorded (t : Tree) (place e : ℕ) (before after : List ℕ) : Type 0 where
-  pub errors-are : e ≡ errors (items t)
-  pub store-is : after ≡ over (laid (records place (items t))) before
-
--- the same, and zero to its last byte
+-- the store holds the records of t, and zero to its last byte; their flags are answered
 pub record Cleared (t : Tree) (place e : ℕ) (before after : List ℕ) : Type 0 where
   pub errors-are : e ≡ errors (items t)
-  pub store-is : after ≡ laid (records place (items t)) ++ replicate (length before - length (laid (records place (items t)))) 0
+  pub store-is : let bytes = laid (records place (items t)) in after ≡ bytes ++ replicate (length before - length bytes) 0

@@ -6,12 +6,12 @@ ghost use mathlib.Core.Path.{_≡_};
 ghost use mathlib.Core.Bool.{true};
 ghost use Prim.Native.Nat.{_≤_};
 ghost use lib.ListN.{length};
-ghost use Rattle.octets.specs.Run.{tree, tiles, items};
+ghost use Rattle.octets.specs.Run.{tree, tiles};
 ghost use Rattle.record.specs.Record.{recordSize};
 ghost use Rattle.record.specs.Store.{room, stored};
 ghost use Rattle.rfc2865.specs.Attribute.{attributes};
-ghost use Rattle.radius_attributes.specs.Answers.{firstOf, countOf, answerOf, runRecords, runAnswer};
-ghost use Rattle.radius_attributes.specs.Fill.{Own, Put, Room, Recorded, Cleared};
+ghost use Rattle.radius_attributes.specs.Answers.{countOf, answerOf, runRecords, runAnswer};
+ghost use Rattle.radius_attributes.specs.Fill.{Own, Put, Room, Cleared};
 
 /// An accepted run: its error flags and number of records.
 pub struct Counts {
@@ -31,32 +31,10 @@ const HEADER_SIZE: usize = 2;
 // A record has four bytes for a place.
 const LAST_PLACE: u32 = 0xffff_ffff;
 
-// What is at the front of a slice: a complete attribute, by its length, or none.
-enum First {
-    Whole(usize),
-    Broken,
-}
-
 // How many attributes cover a slice, or that none do.
 enum Counted {
     Tiled(usize),
     Broken,
-}
-
-fn first_attribute(s: &[u8]) -> First
-    ensures { λ r. ⌜ r ≡ firstOf (now (s .entry)) ⌝ }
-{
-    if s.len() < HEADER_SIZE {
-        return First::Broken;
-    }
-    let length = s[1] as usize;
-    if length < HEADER_SIZE {
-        return First::Broken;
-    }
-    if s.len() < length {
-        return First::Broken;
-    }
-    First::Whole(length)
 }
 
 // How many attributes cover `s` to its last byte.
@@ -66,9 +44,17 @@ fn count(s: &[u8]) -> Counted
     let mut at: usize = 0;
     let mut records: usize = 0;
     while at < s.len() {
-        let First::Whole(length) = first_attribute(&s[at..]) else {
+        let left = s.len() - at;
+        if left < HEADER_SIZE {
             return Counted::Broken;
-        };
+        }
+        let length = s[at + 1] as usize;
+        if length < HEADER_SIZE {
+            return Counted::Broken;
+        }
+        if left < length {
+            return Counted::Broken;
+        }
         at += length;
         records += 1;
     }
@@ -100,11 +86,11 @@ fn read_attribute(s: &[u8], place: usize, store: &mut [u8]) -> u8
     value.errors
 }
 
-// Fills the store with the records of the attributes that cover `s`, which stands at `place`. Answers their error flags.
+// Fills the store with the records of the attributes that cover `s`, which stands at `place`, and with zero after them. Answers their error flags.
 fn fill(s: &[u8], place: usize, store: &mut [u8]) -> u8
     requires { ⌜ tiles (tree attributes (now s)) ≡ true ⌝ }
     requires { ⌜ Room (tree attributes (now s)) place (length (now s)) (length (now store)) ⌝ }
-    ensures { λ r. ⌜ Recorded (tree attributes (now (s .entry))) place r (now (store .entry)) (now (store .exit)) ⌝ }
+    ensures { λ r. ⌜ Cleared (tree attributes (now (s .entry))) place r (now (store .entry)) (now (store .exit)) ⌝ }
 {
     let mut at: usize = 0;
     let mut records: usize = 0;
@@ -121,17 +107,6 @@ fn fill(s: &[u8], place: usize, store: &mut [u8]) -> u8
         records += 1;
         at = next;
     }
-    errors
-}
-
-// The same, with so many records known, and zero after them.
-fn fill_store(s: &[u8], place: usize, records: usize, store: &mut [u8]) -> u8
-    requires { ⌜ tiles (tree attributes (now s)) ≡ true ⌝ }
-    requires { ⌜ Room (tree attributes (now s)) place (length (now s)) (length (now store)) ⌝ }
-    requires { ⌜ records ≡ length (items (tree attributes (now s))) ⌝ }
-    ensures { λ r. ⌜ Cleared (tree attributes (now (s .entry))) place r (now (store .entry)) (now (store .exit)) ⌝ }
-{
-    let errors = fill(s, place, store);
     record::clear(&mut store[records * Record::SIZE..]);
     errors
 }
@@ -151,6 +126,6 @@ pub fn parse_attributes(s: &[u8], place: u32, store: &mut [u8]) -> Filled
     if store.len() / Record::SIZE < records {
         return Filled::Refused(Refusal::NoRecords(records));
     }
-    let errors = fill_store(s, place as usize, records, store);
+    let errors = fill(s, place as usize, store);
     Filled::Accepted(Counts { errors, records })
 }

@@ -1,14 +1,18 @@
 -- `count` meets its contract: what is left of the run at `at` tiles exactly where the whole does, and has as many items fewer as
--- were counted (`Counting`). The measure is what is left; an attribute takes a byte at least, so the count does not overflow.
-use Prim.Native.Nat.{_-_, _≤_}
-use mathlib.Core.Path.{sym, _∙_}
+-- were counted (`Counting`). An attribute is complete there exactly where its two bytes are there, its length counts them, and as many
+-- bytes are there: these are the three tests. The measure is what is left; an attribute takes a byte at least, so the count does not overflow.
+use Prim.Native.Nat.{_+_, _-_, _≤_}
+use mathlib.Core.Path.{_≡_}
 use native.Mathlib.Omega.{arith}
-use lib.ListN.{length, drop}
+use lib.ListN.{length, drop, getD, length-drop}
 use denote.Ref.{now}
 use borrow.Author.Needs.{needs}
 use Rattle.octets.specs.Run.{tree}
 use Rattle.rfc2865.specs.Attribute.{attributes}
-use Rattle.radius_attributes.proofs.Fronts.{Turn, turn, stuck}
+use Rattle.rfc2865.proofs.Items.{Whole}
+use Rattle.radius_attributes.specs.declared.Counted.the-variants as counted
+use Rattle.radius_attributes.specs.Answers.{countOf}
+use Rattle.radius_attributes.proofs.Fronts.{Turn, stated, stuck, turn}
 use Rattle.radius_attributes.proofs.Counting.{Counting, nothing-counted, one-counted, all-counted, not-counted}
 use Rattle.radius_attributes.proofs.count.Statement.{statement}
 use Rattle.radius_attributes.proofs.count.Tie as tie
@@ -20,24 +24,55 @@ Inv-loop s at₀ records₀ at records =
 abbrev μ-loop : tie.MeasureT-loop
 μ-loop s at₀ records₀ at records = length s - at
 
--- the attribute at `at`
-turned : (c : tie.After-known-told Inv-loop μ-loop)
-    → let b = c .before in
-    let l = b .before .before .before .before .before in
-    Turn (now (l .before .before .args .s)) (l .loop .at) (b .length .given .0 .0)
-turned c = let b = c .before in turn _ _ _ (omega arith) (sym (b .length .given .1) ∙ b .before .before .first-attribute .ensures)
+abbrev Inside : Type 0
+Inside = tie.In-loop Inv-loop μ-loop
+
+-- no attribute is complete at `at`
+broken : (c : Inside)
+    → let l = c .before in
+    let s = now (l .before .args .s) in
+    (Whole (drop (l .loop .at) s) → ⊥) → counted.Broken ≡ countOf (tree attributes s)
+broken c none =
+    let l = c .before in
+    let s = now (l .before .args .s) in
+    not-counted s (l .loop .at) (l .loop .inv .2) (c .loop-test .taken) (stuck s (l .loop .at) none)
 
 returns : tie.Need-returns Inv-loop μ-loop
 returns c =
+    let l = c .before .before in
+    let rest = length-drop (l .loop .at) (now (l .before .args .s)) in
+    broken (c .before) (λ w. omega (arith, w .least, w .there))
+
+returns-2 : tie.Need-returns-2 Inv-loop μ-loop
+returns-2 c =
+    let i = c .before .before .before in
+    let is = stated (now (i .before .before .args .s)) (i .before .loop .at) in
+    broken i (λ w. omega (arith, w .least))
+
+returns-3 : tie.Need-returns-3 Inv-loop μ-loop
+returns-3 c =
+    let i = c .before .before .before .before in
+    let s = now (i .before .before .args .s) in
+    let is = stated s (i .before .loop .at) in
+    let rest = length-drop (i .before .loop .at) s in
+    broken i (λ w. omega (arith, w .there))
+
+-- the attribute at `at`
+turned : (c : tie.Else3 Inv-loop μ-loop)
+    → let l = c .before .before .before .before .before in
+    let s = now (l .before .args .s) in
+    Turn s (l .loop .at) (getD s (l .loop .at + 1) 0)
+turned c =
     let l = c .before .before .before .before .before in
-    let s = now (l .before .before .args .s) in
-    not-counted s (l .loop .at) (l .loop .inv .2) (omega arith)
-    (stuck s (l .loop .at) (omega arith) (sym (c .enum-told .given .1) ∙ c .before .before .first-attribute .ensures))
+    let s = now (l .before .args .s) in
+    let is = stated s (l .loop .at) in
+    let rest = length-drop (l .loop .at) s in
+    turn s (l .loop .at) (record { least = omega arith; there = omega arith })
 
 loop-again : tie.Need-loop-again Inv-loop μ-loop
 loop-again c =
     let t = turned c in
-    let l = c .before .before .before .before .before .before in
+    let l = c .before .before .before .before .before in
     (t .fits, omega (arith, t .some), one-counted _ _ (l .loop .inv .2) t)
 
 pub count-spec : {M : Type 1} → statement M
@@ -48,12 +83,12 @@ count-spec =
     μ-loop
     (λ c. (omega arith, omega arith, nothing-counted))
     (λ c. search needs)
-    (λ c. search needs)
-    (λ c. search needs)
-    (λ c κs. search needs)
-    (λ c. search needs)
-    (λ c. search needs)
     returns
+    (λ c. search needs)
+    (λ c. search needs)
+    (λ c. omega (arith, c .shared-slice-known .given (c .before .before .before .loop .at + 1)))
+    returns-2
+    returns-3
     (λ c. omega (arith, turned c .fits))
     (λ c. omega (arith, turned c .fits, turned c .some))
     (λ c. omega (arith, turned c .fits, turned c .some))

@@ -8,7 +8,8 @@ use borrow.Author.Needs.{needs}
 use Rattle.octets.specs.Run.{tree}
 use Rattle.record.specs.Record.{recordSize}
 use Rattle.rfc2865.specs.Attribute.{attributes}
-use Rattle.radius_attributes.proofs.Fronts.{Turn, known}
+use Rattle.rfc2865.proofs.Items.{complete-whole}
+use Rattle.radius_attributes.proofs.Fronts.{Turn, turn}
 use Rattle.radius_attributes.proofs.Filling.{Filling, nothing-filled, never-stuck, all-filled, own-bytes, one-within, room-for-one, one-filled}
 use Rattle.radius_attributes.proofs.fill.Statement.{statement}
 use Rattle.radius_attributes.proofs.fill.Tie as tie
@@ -28,7 +29,7 @@ turned : (c : tie.In-loop Inv-loop μ-loop) → let l = c .before in let s = now
 turned c =
     let l = c .before in
     let s = now (start l .args .s) in
-    known s (l .loop .at) (never-stuck s (l .loop .at) (l .loop .inv .1) (start l .pre .0) (c .loop-test .taken))
+    turn s (l .loop .at) (complete-whole _ (never-stuck s (l .loop .at) (l .loop .inv .1) (start l .pre .0) (c .loop-test .taken)))
 
 -- the records so far are within the store
 within : (l : tie.At-loop Inv-loop μ-loop) → l .loop .records * recordSize ≤ length (l .loop .store)
@@ -51,6 +52,13 @@ loop-again c =
     let l = k .before in
     let t = turned k in
     (t .fits, rw (c .join .ensures) (one-filled (start l .pre .1) (l .loop .inv .1) t (c .before .before .before .read-attribute .ensures)))
+
+returns : tie.Need-returns Inv-loop μ-loop
+returns c =
+    let k = c .before .before in
+    let end = k .before .before in
+    let l = end .before in
+    all-filled _ _ (l .loop .inv .1) (start l .pre .1) (end .loop-test .left) (k .clear .ensures)
 
 pub fill-spec : {M : Type 1} → statement M
 fill-spec =
@@ -79,5 +87,10 @@ fill-spec =
     omega (arith, one-within (start l .pre .1) (l .loop .inv .1) (turned k), l .loop .inv .1 .length-kept, start l .good))
     (λ c. let t = turned (turn-of c) in omega (arith, t .fits, t .some))
     loop-again
+    (λ c. omega (arith, within (c .before)))
+    (λ c. omega (arith, within (c .before)))
+    (λ c. omega (arith, within (c .before)))
     (λ c. search needs)
-    (λ c. all-filled _ _ (c .before .loop .inv .1) (c .loop-test .left)))
+    (λ c κs. search needs)
+    (λ c. search needs)
+    returns)

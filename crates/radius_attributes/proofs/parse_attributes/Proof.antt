@@ -51,13 +51,11 @@ returns-3 c =
     let t = tiled (c .before) in
     (no-records _ _ _ (near (counted (c .before) .before)) (t .0) _ (t .1) (omega arith), refl)
 
-fill-store-requires : tie.Need-fill-store-requires
-fill-store-requires c κs =
+fill-requires : tie.Need-fill-requires
+fill-requires c κs =
     let k = c .before .before in
-    let t = tiled k in (
-      t .0,
-      (record { records-fit = omega (arith, t .1, c .before .if2 .left); places-fit = near (counted k .before) }, t .1),
-    )
+    let t = tiled k in
+    (t .0, record { records-fit = omega (arith, t .1, c .before .if2 .left); places-fit = near (counted k .before) })
 
 returns-4 : tie.Need-returns-4
 returns-4 c =
@@ -65,7 +63,7 @@ returns-4 c =
     let fit = filled .before .before in
     let k = fit .before in
     let t = tiled k in
-    let f = filled .fill-store .ensures in
+    let f = filled .fill .ensures in
     (accepts _ _ _ (near (counted k .before)) (t .0) _ (t .1) (omega (arith, fit .if2 .left)) (f .errors-are), stores _ _ _ f)
 
 pub parse-attributes-spec : {M : Type 1} → statement M
@@ -80,6 +78,6 @@ parse-attributes-spec =
     (λ c. search needs)
     returns-2
     returns-3
-    fill-store-requires
+    fill-requires
     (λ c. search needs)
     returns-4)
