@@ -43,22 +43,20 @@ fn count(s: &[u8]) -> Counted
 {
     let mut at: usize = 0;
     let mut records: usize = 0;
-    while at < s.len() {
-        let left = s.len() - at;
-        if left < HEADER_SIZE {
-            return Counted::Broken;
-        }
+    while HEADER_SIZE <= s.len() - at {
         let length = s[at + 1] as usize;
-        if length < HEADER_SIZE {
-            return Counted::Broken;
-        }
-        if left < length {
+        if (length < HEADER_SIZE) | (s.len() - at < length) {
             return Counted::Broken;
         }
         at += length;
         records += 1;
     }
-    Counted::Tiled(records)
+    // one byte left over has no length
+    if at < s.len() {
+        Counted::Broken
+    } else {
+        Counted::Tiled(records)
+    }
 }
 
 // Puts the record of the attribute whose own bytes are `s` and which stands at `place`. Answers its error flags.
