@@ -14,7 +14,7 @@ use Rattle.record.specs.Record.{Record}
 use Rattle.reader.specs.declared.Reader.{Reader}
 use Rattle.writer.specs.declared.Fields.{Fields}
 use Rattle.radius_writer.specs.declared.Fields as packet
-use Rattle.promises.proofs.OneOutcome.Calls.{Slice, PutWord, PutLong, RecordPut, PutFound, Clear, ParseAvps, Parse, ParseAvp, ParseBy, ParseAvpBy, Dump, Write, TandrekilyMessage, TandrekilyHeader, TandrekilyAvp, TandrekilyMessageBy, TandrekilyAvpBy, TandrekilyFind, TandrekilyNext, TandrekilyWrite, TandrekilyCompare, ParsePacket, WritePacket, TandrekilyRadius, TandrekilyRadiusWrite}
+use Rattle.promises.proofs.OneOutcome.Calls.{Slice, PutWord, PutLong, RecordPut, PutFound, Clear, ParseAvps, Parse, ParseAvp, ParseBy, ParseAvpBy, Dump, Write, TandrekilyMessage, TandrekilyHeader, TandrekilyAvp, TandrekilyMessageBy, TandrekilyAvpBy, TandrekilyFind, TandrekilyNext, TandrekilyWrite, TandrekilyCompare, ParseAttributes, ParsePacket, WritePacket, TandrekilyRadius, TandrekilyRadiusWrite}
 use Rattle.promises.proofs.OneOutcome.ByHand.{ReaderNew, ReaderNext, ReaderFind}
 use Rattle.octets.proofs.be_u16.Reads as be-u16
 use Rattle.octets.proofs.be_u24.Reads as be-u24
@@ -114,6 +114,7 @@ use Rattle.count.proofs.AnswerOf as count-answers
 use Rattle.avps.proofs.AnswerOf as avps-answers
 use Rattle.diameter.proofs.AnswerOf as diameter-answers
 use Rattle.record.proofs.AnswerOf as writer-answers
+use Rattle.radius_attributes.proofs.AnswerOf as attributes-answers
 use Rattle.radius.proofs.AnswerOf as packet-answers
 use Rattle.radius_value.proofs.ValueAs.{value-as-injective}
 
@@ -471,13 +472,20 @@ write-one κs fields table pool out r r′ after after′ p q =
     let at-exit′ = q .1 in
     (e, cc)
 
--- ---- radius_value, radius and radius_writer
+-- ---- radius_value, radius_attributes, radius and radius_writer
 
 type-kind-one : Single type-kind.Post
 type-kind-one κs a r r′ s p q = p ∙ sym q
 
 attribute-value-read-one : Single attribute-value-read.Post
 attribute-value-read-one κs a r r′ s p q = value-as-injective r r′ (p ∙ sym q)
+
+parse-attributes-one : (κs : Lfts 2) (s : Slice) (place : ℕ) (store : Slice) → Settled (ParseAttributes κs s place store)
+parse-attributes-one κs s place store r r′ after after′ p q =
+    let e = attributes-answers.answer-of-injective r r′ (p .0 ∙ sym (q .0)) in
+    let at-exit = p .1 in
+    let at-exit′ = q .1 in
+    (e, cc)
 
 parse-packet-one : (κs : Lfts 2) (input store : Slice) → Settled (ParsePacket κs input store)
 parse-packet-one κs input store r r′ after after′ p q =

@@ -34,6 +34,8 @@ use Rattle.reader.proofs.find.Reads as find
 use Rattle.writer.specs.declared.Fields.{Fields}
 use Rattle.record.specs.declared.written.Written.{Written}
 use Rattle.writer.proofs.write.Reads as write
+use Rattle.radius_attributes.specs.declared.Filled as attributes
+use Rattle.radius_attributes.proofs.parse_attributes.Reads as parse-attributes
 use Rattle.radius.specs.declared.Parsed.{Parsed}
 use Rattle.radius.proofs.parse.Reads as parse-packet
 use Rattle.radius_writer.specs.declared.Fields as packet-fields
@@ -158,6 +160,9 @@ abbrev pub TandrekilyUnixSeconds : ℕ → ℤ → Type 0
 TandrekilyUnixSeconds time r = tandrekily-unix-seconds.Post tt (time, tt) r (time, tt)
 
 -- ---- RADIUS
+
+abbrev pub ParseAttributes : Lfts 2 → Slice → ℕ → Slice → attributes.Filled → Slice → Type 0
+ParseAttributes κs s place store r store′ = parse-attributes.Post κs (s, (place, (store, tt))) r (s, (place, (store′, tt)))
 
 abbrev pub ParsePacket : Lfts 2 → Slice → Slice → Parsed → Slice → Type 0
 ParsePacket κs input store r store′ = parse-packet.Post κs (input, (store, tt)) r (input, (store′, tt))
