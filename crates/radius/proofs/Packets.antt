@@ -1,11 +1,12 @@
 -- `measuredOf` and `decoded` by cases: which facts lead to which answer, in the order of the refusals. Once a header was accepted the body
 -- is the run that the definition reads, so the packet is refused as the run is, and else accepted with its counts.
-use Prim.Native.Nat.{ℕ, _-_, _≤_, _<_}
+use Prim.Native.Nat.{ℕ, _-_, _≤_}
 use mathlib.Core.Path.{_≡_, sym, ap, _∙_}
-use mathlib.Core.Bool.{true}
+use mathlib.Core.Bool.{Bool, true, false, _||_}
 use mathlib.Core.List.{List}
 use native.Mathlib.Omega.{arith}
 use lib.ListN.{length, getD, take, drop, length-take}
+use lib.Dec.{ltb}
 use borrow.Author.Tests.{lt-ltb, le-ltb}
 use Rattle.octets.specs.Run.{tried, items}
 use Rattle.octets.proofs.Availability.{Missing}
@@ -40,25 +41,23 @@ module _ (s : List ℕ) where
 
   -- with a length
   module _ (four : 4 ≤ length s) where
-    pub too-short : packetLength s < 20 → lengthOf (measured.Refused BadLength) ≡ measuredOf s
+    -- that is less than a header, or more than a packet may have
+    abbrev bad : Bool
+    bad = ltb (packetLength s) 20 || ltb 4096 (packetLength s)
+
+    pub bad-length : bad ≡ true → lengthOf (measured.Refused BadLength) ≡ measuredOf s
     unfolding lengthOf measuredOf headerRefusals
-    too-short short = simp (le-ltb _ _ four, lt-ltb _ _ short)
+    bad-length is = rw (le-ltb _ _ four, is)
 
-    -- that counts the header
-    module _ (least : 20 ≤ packetLength s) where
-      pub too-long : 4096 < packetLength s → lengthOf (measured.Refused BadLength) ≡ measuredOf s
+    -- or is neither
+    module _ (good : bad ≡ false) where
+      pub cut-off : (n : ℕ) → Missing (packetLength s) (length s) n → lengthOf (measured.Refused (Incomplete n)) ≡ measuredOf s
       unfolding lengthOf measuredOf headerRefusals
-      too-long long = simp (le-ltb _ _ four, le-ltb _ _ least, lt-ltb _ _ long)
+      cut-off n m = rw (le-ltb _ _ four, good, lt-ltb _ _ (m .fewer), m .missing)
 
-      -- and is no longer than a packet may be
-      module _ (most : packetLength s ≤ 4096) where
-        pub cut-off : (n : ℕ) → Missing (packetLength s) (length s) n → lengthOf (measured.Refused (Incomplete n)) ≡ measuredOf s
-        unfolding lengthOf measuredOf headerRefusals
-        cut-off n m = simp (le-ltb _ _ four, le-ltb _ _ least, le-ltb _ _ most, lt-ltb _ _ (m .fewer), m .missing)
-
-        pub all-there : packetLength s ≤ length s → (n : ℕ) → n ≡ packetLength s → lengthOf (measured.Length n) ≡ measuredOf s
-        unfolding lengthOf measuredOf headerRefusals
-        all-there there n e = simp (le-ltb _ _ four, le-ltb _ _ least, le-ltb _ _ most, le-ltb _ _ there, e)
+      pub all-there : packetLength s ≤ length s → (n : ℕ) → n ≡ packetLength s → lengthOf (measured.Length n) ≡ measuredOf s
+      unfolding lengthOf measuredOf headerRefusals
+      all-there there n e = rw (le-ltb _ _ four, good, le-ltb _ _ there, e)
 
 -- ---- a packet whose header was accepted
 

@@ -58,10 +58,7 @@ fn measure(input: &[u8]) -> Measured
         return Measured::Refused(Refusal::Incomplete(absent));
     }
     let length = octets::be_u16(input[2], input[3]) as usize;
-    if length < Packet::HEADER {
-        return Measured::Refused(Refusal::BadLength);
-    }
-    if Packet::MOST < length {
+    if (length < Packet::HEADER) | (Packet::MOST < length) {
         return Measured::Refused(Refusal::BadLength);
     }
     if let Available::Absent(absent) = octets::at_hand::length(length, available) {
