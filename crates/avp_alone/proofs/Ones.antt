@@ -15,7 +15,7 @@ use Rattle.rfc6733.specs.Decoder.{allowed, runRecords, runCounts, aloneRecords,
 use Rattle.rfc6733.proofs.Alone.{alone, exact-tree, item-exact}
 use Rattle.rfc6733.proofs.Complete.{complete-whole}
 use Rattle.rfc6733.proofs.Decoded.{alone-past}
-use Rattle.fits.specs.Fitting.{lastPlace}
+use Rattle.record.specs.Record.{lastPlace}
 use Rattle.avps.specs.Answers.{runAnswer}
 use Rattle.avps.proofs.Answered.{past-limit}
 use Rattle.avp_alone.specs.Answers.{Complete}

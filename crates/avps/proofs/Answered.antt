@@ -17,7 +17,8 @@ use Rattle.record.specs.Store.{stored}
 use Rattle.count.specs.declared.Counted.the-variants as count
 use Rattle.count.specs.Counts as counted
 use Rattle.count.specs.Counts.{sums}
-use Rattle.fits.specs.Fitting.{lastPlace, refusals, fittingOf}
+use Rattle.record.specs.Record.{lastPlace}
+use Rattle.fits.specs.Fitting.{refusals, fittingOf}
 use Rattle.fits.proofs.Fitted as fitted
 use Rattle.fits.proofs.Fitted.{Fitted, records-are}
 use Rattle.avps.specs.declared.Counts.{Counts}

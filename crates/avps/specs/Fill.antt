@@ -10,7 +10,7 @@ use Rattle.octets.specs.Run.{Tree, tree, tried, deepest}
 use Rattle.rfc6733.specs.Avp.{mostDepth, headSize}
 use Rattle.rfc6733.specs.Dictionary.{Dictionary}
 use Rattle.record.specs.Kinds.{unhandled, grouped}
-use Rattle.record.specs.Record.{Record, recordSize, laid}
+use Rattle.record.specs.Record.{Record, recordSize, lastPlace, laid}
 use Rattle.record.specs.Parents.{topLevel, parented}
 use Rattle.rfc6733.specs.Records.{avps, tiling, errors, records, recordCount}
 use Rattle.rfc6733.specs.Groups.{memberRecords}
@@ -18,7 +18,6 @@ use Rattle.rfc6733.specs.Entered.{valueIn, entered}
 use Rattle.avp.specs.declared.AVP.{AVP}
 use Rattle.attribute.specs.declared.Dictionary as attribute
 use Rattle.attribute.specs.ByTable.{dictionaryBy}
-use Rattle.fits.specs.Fitting.{lastPlace}
 use Rattle.avps.specs.declared.fill.Ran.{Ran}
 use Rattle.avps.specs.declared.fill.Valued.{Valued}
 

@@ -21,7 +21,7 @@ use Rattle.avps.specs.declared.Counts.{Counts}
 use Rattle.avps.specs.declared.Filled.{Filled}
 use Rattle.avps.specs.declared.Filled.the-variants as run
 use Rattle.avps.specs.Answers as avps
-use Rattle.fits.specs.Fitting.{lastPlace}
+use Rattle.record.specs.Record.{lastPlace}
 use Rattle.avps.specs.Answers.{countsAs, runAnswer}
 use Rattle.avps.proofs.Answered.{past-limit}
 use Rattle.avps.proofs.Told.{Told}

@@ -23,7 +23,8 @@ use Rattle.rfc6733.proofs.RunRecords.{records-count}
 use Rattle.count.specs.declared.Counted.the-variants.{Fits, Refused}
 use Rattle.count.specs.Counts.{Sums, sums, answerOf, countOf}
 use Rattle.count.proofs.Counts.{Fitting}
-use Rattle.fits.specs.Fitting.{lastPlace, refusals, fittingOf}
+use Rattle.record.specs.Record.{lastPlace}
+use Rattle.fits.specs.Fitting.{refusals, fittingOf}
 
 module _ (D : Dictionary) (limit room place : ℕ) (s : List ℕ) where
   abbrev run : Tree

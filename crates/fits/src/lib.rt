@@ -2,14 +2,12 @@
 // This crate counts, and writes nothing.
 use attribute::Dictionary;
 use count::Counted;
+use record::Record;
 use refusal::Refusal;
 ghost use mathlib.Core.Path.{_≡_};
 ghost use Rattle.attribute.specs.ByTable.{dictionaryBy};
 ghost use Rattle.count.specs.Counts.{answerOf};
 ghost use Rattle.fits.specs.Fitting.{fittingOf};
-
-// A record has four bytes for a place.
-const LAST_PLACE: u32 = 0xffff_ffff;
 
 /// Counts the run `s`, which stands at `place` of the input, by a dictionary, if there is room for its records. Headers may be tried on
 /// `limit` levels. A run that ends past the last place that a record can have is TooLong.
@@ -23,7 +21,7 @@ pub fn count_fitting(
 ) -> Counted
     ensures { λ r. ⌜ answerOf r ≡ fittingOf (dictionaryBy d (now (kinds .entry))) limit room place (now (s .entry)) ⌝ }
 {
-    if ((LAST_PLACE - place) as usize) < s.len() {
+    if ((Record::LAST_PLACE - place) as usize) < s.len() {
         return Counted::Refused(Refusal::TooLong);
     }
     match count::count_run(d, kinds, s, limit) {

@@ -15,7 +15,8 @@ use Rattle.rfc2865.specs.Records.{errors}
 use Rattle.rfc2865.proofs.Tried.{records-length}
 use Rattle.radius_attributes.specs.declared.Counts.{Counts}
 use Rattle.radius_attributes.specs.declared.Filled.the-variants.{Accepted, Refused}
-use Rattle.radius_attributes.specs.Answers.{answerOf, lastPlace, runRecords, runCounts, runRefusals, runAnswer}
+use Rattle.record.specs.Record.{lastPlace}
+use Rattle.radius_attributes.specs.Answers.{answerOf, runRecords, runCounts, runRefusals, runAnswer}
 use Rattle.radius_attributes.specs.Fill.{Cleared}
 
 module _ (room place : ℕ) (s : List ℕ) where

@@ -1,15 +1,13 @@
 -- What the reader's functions answer. A run is refused as the attributes of a packet are (docs/FORMAT.md, 11), in that order. Before
 -- that is the run's own refusal, where a place would not fit its four bytes.
-use Prim.Native.Nat.{ℕ, _+_, _-_, _^_}
+use Prim.Native.Nat.{ℕ}
 use mathlib.Core.Bool.{cond}
-use mathlib.Core.List.{List, _∷_, _++_}
+use mathlib.Core.List.{List, _++_}
 use lib.ListN.{length}
-use lib.Dec.{ltb}
 use Rattle.octets.specs.Run.{Tree, tree, tiles, items}
-use Rattle.refusal.specs.Answer.{Answer, accepted, refused, Test, refuse, answer}
-use Rattle.refusal.specs.declared.Refusal.the-variants.{TooLong}
+use Rattle.refusal.specs.Answer.{Answer, accepted, refused, Test, answer}
 use Rattle.record.specs.Record.{Record}
-use Rattle.record.specs.Refusals.{tileRefusals, roomRefusals}
+use Rattle.record.specs.Refusals.{placeRefusals, tileRefusals, roomRefusals}
 use Rattle.rfc2865.specs.Attribute.{attributes}
 use Rattle.rfc2865.specs.Records.{records, errors}
 use Rattle.radius_attributes.specs.declared.Counted.{Counted}
@@ -27,10 +25,6 @@ unfoldable pub answerOf : Filled → Answer Counts
 answerOf (Accepted c) = accepted c
 answerOf (Refused why) = refused why
 
--- a record has four bytes for a place
-abbrev pub lastPlace : ℕ
-lastPlace = 256 ^ 4 - 1
-
 abbrev pub runRecords : ℕ → List ℕ → List Record
 runRecords place s = records place (items (tree attributes s))
 
@@ -42,4 +36,4 @@ abbrev pub runRefusals : ℕ → ℕ → List ℕ → List Test
 runRefusals room place s = tileRefusals (tree attributes s) ++ roomRefusals room (runRecords place s)
 
 unfoldable pub runAnswer : ℕ → ℕ → List ℕ → Answer Counts
-runAnswer room place s = answer (refuse (ltb lastPlace (place + length s)) TooLong ∷ runRefusals room place s) (runCounts s)
+runAnswer room place s = answer (placeRefusals place s ++ runRefusals room place s) (runCounts s)

@@ -6,10 +6,9 @@ use mathlib.Core.List.{List, _++_}
 use lib.ListN.{length, replicate}
 use Rattle.octets.specs.Octets.{over}
 use Rattle.octets.specs.Run.{Tree, items}
-use Rattle.record.specs.Record.{recordSize, recordBytes, laid}
+use Rattle.record.specs.Record.{recordSize, lastPlace, recordBytes, laid}
 use Rattle.rfc2865.specs.Attribute.{attributeLength, complete}
 use Rattle.rfc2865.specs.Records.{valueOf, recordOf, records, errors}
-use Rattle.radius_attributes.specs.Answers.{lastPlace}
 
 -- s is an attribute's own bytes, all of them, whose places fit the four bytes of a record
 pub record Own (place : ℕ) (s : List ℕ) : Type 0 where

@@ -28,9 +28,6 @@ pub enum Filled {
 // A type and a length (RFC 2865, section 5).
 const HEADER_SIZE: usize = 2;
 
-// A record has four bytes for a place.
-const LAST_PLACE: u32 = 0xffff_ffff;
-
 // How many attributes cover a slice, or that none do.
 enum Counted {
     Tiled(usize),
@@ -115,7 +112,7 @@ pub fn parse_attributes(s: &[u8], place: u32, store: &mut [u8]) -> Filled
     ensures answer { λ r. ⌜ answerOf r ≡ runAnswer (room (now (store .entry))) place (now (s .entry)) ⌝ }
     ensures store { λ r. ⌜ now (store .exit) ≡ stored (answerOf r) (runRecords place (now (s .entry))) (now (store .entry)) ⌝ }
 {
-    if ((LAST_PLACE - place) as usize) < s.len() {
+    if ((Record::LAST_PLACE - place) as usize) < s.len() {
         return Filled::Refused(Refusal::TooLong);
     }
     let Counted::Tiled(records) = count(s) else {

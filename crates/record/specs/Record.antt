@@ -1,5 +1,5 @@
 -- A record and its bytes (docs/FORMAT.md, 6).
-use Prim.Native.Nat.{ℕ}
+use Prim.Native.Nat.{ℕ, _-_, _^_}
 use mathlib.Core.List.{List, [], _∷_, _++_}
 use lib.ListN.{getD}
 use Rattle.record.specs.declared.Record as declared
@@ -37,6 +37,10 @@ recordLayout =
 
 abbrev pub recordSize : ℕ
 recordSize = total (recordLayout .sizes)
+
+-- the last place that fits its four bytes
+abbrev pub lastPlace : ℕ
+lastPlace = 256 ^ 4 - 1
 
 abbrev pub layout : Record → List Field
 layout r = fieldsOf recordLayout r

@@ -93,6 +93,9 @@ pub fn clear(store: &mut [u8])
 impl Record {
     pub const SIZE: usize = 36;
 
+    /// The last place that fits its four bytes.
+    pub const LAST_PLACE: u32 = 0xffff_ffff;
+
     /// The parent of a record at depth 1.
     pub const TOP_LEVEL: u32 = 0xffff_ffff;
 

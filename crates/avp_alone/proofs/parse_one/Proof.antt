@@ -7,7 +7,7 @@ use denote.Ref.{now}
 use borrow.Author.Needs.{needs}
 use Rattle.octets.proofs.Numbers.{be-small}
 use Rattle.rfc6733.proofs.Complete.{sizes, complete-whole}
-use Rattle.fits.specs.Fitting.{lastPlace}
+use Rattle.record.specs.Record.{lastPlace}
 use Rattle.avp_alone.proofs.Ones.{own-records, alone-is}
 use Rattle.avp_alone.proofs.parse_one.Statement.{statement}
 use Rattle.avp_alone.proofs.parse_one.Tie as tie

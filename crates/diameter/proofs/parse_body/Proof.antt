@@ -7,7 +7,7 @@ use denote.Ref.{now}
 use borrow.Author.Needs.{needs}
 use Rattle.record.specs.Store.{stored}
 use Rattle.avps.specs.Answers as avps
-use Rattle.fits.specs.Fitting.{lastPlace}
+use Rattle.record.specs.Record.{lastPlace}
 use Rattle.avps.proofs.Told.{told}
 use Rattle.diameter.specs.Answers.{answerOf}
 use Rattle.header.proofs.Bodies.{Body}

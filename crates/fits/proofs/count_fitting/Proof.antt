@@ -11,7 +11,7 @@ use Rattle.rfc6733.specs.Records.{avps}
 use Rattle.attribute.specs.ByTable.{dictionaryBy}
 use Rattle.count.specs.Counts.{answerOf}
 use Rattle.count.proofs.Counts.{Fitting, was-fitting}
-use Rattle.fits.specs.Fitting.{lastPlace}
+use Rattle.record.specs.Record.{lastPlace}
 use Rattle.fits.proofs.Fitted.{too-long, count-refused, no-records, has-room}
 use Rattle.fits.proofs.count_fitting.Statement.{statement}
 use Rattle.fits.proofs.count_fitting.Tie as tie

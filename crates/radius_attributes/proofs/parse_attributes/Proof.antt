@@ -10,7 +10,8 @@ use Rattle.octets.specs.Run.{tree}
 use Rattle.record.specs.Store.{stored}
 use Rattle.rfc2865.specs.Attribute.{attributes}
 use Rattle.radius_attributes.specs.declared.Counted.the-variants.{Tiled, Broken}
-use Rattle.radius_attributes.specs.Answers.{lastPlace, answerOf}
+use Rattle.record.specs.Record.{lastPlace}
+use Rattle.radius_attributes.specs.Answers.{answerOf}
 use Rattle.radius_attributes.proofs.Counting.{Was, was}
 use Rattle.radius_attributes.proofs.Answered.{too-long, not-tiled, no-records, accepts, stores}
 use Rattle.radius_attributes.proofs.parse_attributes.Statement.{statement}
