@@ -13,7 +13,7 @@ use Rattle.rfc2865.specs.Writer.{attributeBytes, runBytes, tableBytes}
 use Rattle.rfc2865.proofs.Lengths.{attribute-length, packet-length}
 use Rattle.rfc2865.proofs.Rules.{Kept, keeps-good}
 use Rattle.radius_writer.specs.declared.Fields.{Fields}
-use Rattle.radius_writer.specs.Sizing.{lengths}
+use Rattle.radius_size.specs.Sizing.{lengths}
 use Rattle.radius_writer.proofs.Fields.{the-row}
 
 pub run-length : (pool : List ℕ) (rs : List Record) → Kept (length pool) rs → length (runBytes pool rs) ≡ lengths rs

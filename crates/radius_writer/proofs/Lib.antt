@@ -1,6 +1,4 @@
-mod Keeping
 mod Lengths
 mod Parts
 mod Runs
-mod Sizes
 mod Writing

@@ -10,7 +10,7 @@ use Rattle.octets.specs.Octets.{over}
 use Rattle.octets.proofs.Lists.{over-none, over-more, lent}
 use Rattle.record.specs.Record.{Record}
 use Rattle.rfc2865.specs.Writer.{attributeBytes, runBytes}
-use Rattle.radius_writer.specs.Sizing.{lengths}
+use Rattle.radius_size.specs.Sizing.{lengths}
 use Rattle.rfc2865.proofs.Lengths.{attribute-length}
 use Rattle.rfc2865.proofs.Rules.{Kept, keeps-good}
 

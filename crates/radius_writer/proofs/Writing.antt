@@ -16,7 +16,7 @@ use Rattle.record.specs.Table.{tableOf}
 use Rattle.record.proofs.Tables.{table-length}
 use Rattle.rfc2865.specs.Packet.{Header, authenticatorSize, headerSize, mostPacket}
 use Rattle.rfc2865.specs.Writer.{keepers, runBytes, headerBytes, packetBytes, tableBytes, written}
-use Rattle.radius_writer.specs.Sizing.{lengths}
+use Rattle.radius_size.specs.Sizing.{lengths}
 use Rattle.rfc2865.proofs.Lengths.{header-length}
 use Rattle.rfc2865.proofs.Rules.{Kept, keepers-most, keepers-kept}
 use Rattle.radius_writer.proofs.Lengths.{run-length, total-length}

@@ -7,7 +7,7 @@ use lib.ListN.{length}
 use Rattle.record.specs.Record.{Record}
 use Rattle.record.specs.Table.{Every}
 use Rattle.rfc2865.specs.Writer.{keeps}
-use Rattle.radius_writer.specs.Sizing.{lengths}
+use Rattle.radius_size.specs.Sizing.{lengths}
 
 -- a record keeps the rules, and its attribute fits the output
 pub record Ready (r : Record) (pool out : List ℕ) : Type 0 where

@@ -1,4 +1,2 @@
 pub mod Answers
-pub mod Rules
-pub mod Sizing
 pub mod Emitting

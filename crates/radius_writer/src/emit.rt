@@ -1,5 +1,5 @@
 // Writes the attributes of a table that is known to keep the rules and to fit.
-use super::rules::HEADER_SIZE;
+use radius_rules::HEADER_SIZE;
 use record::Record;
 ghost use mathlib.Core.Path.{_≡_};
 ghost use Rattle.octets.specs.Octets.{over};

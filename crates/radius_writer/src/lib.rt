@@ -1,13 +1,11 @@
 // The writer of RADIUS packets: from a header's fields, a table of records and the bytes that its places point into, to a packet.
 // Everything is checked and measured before the first byte is written, so a refusal has changed none.
 mod emit;
-mod rules;
-mod size;
 
+use radius_size::Measured;
 use record::Record;
 use record::written::Written;
 use refusal::Refusal;
-use size::Measured;
 ghost use mathlib.Core.Path.{_≡_};
 ghost use Prim.Native.Nat.{_≤_};
 ghost use lib.ListN.{length};
@@ -54,14 +52,15 @@ pub fn write(fields: Fields, table: &[u8], pool: &[u8], out: &mut [u8]) -> Writt
     ensures out { λ r. ⌜ now (out .exit) ≡ outputAfter (headerAs fields) (now (table .entry)) (now (pool .entry)) (now (out .entry)) r ⌝ }
 {
     let count = table.len() / Record::SIZE;
-    let kept = rules::keepers(table, pool.len());
+    let kept = radius_rules::keepers(table, pool.len());
     if kept < count {
         return Written::Refused(Refusal::BadTable(kept));
     }
     if table.len() % Record::SIZE != 0 {
         return Written::Refused(Refusal::BadTable(count));
     }
-    let Measured::Size(size) = size::size_run(table, Fields::MOST_LENGTH - Fields::HEADER) else {
+    let Measured::Size(size) = radius_size::size_run(table, Fields::MOST_LENGTH - Fields::HEADER)
+    else {
         return Written::Refused(Refusal::TooLong);
     };
     let total = Fields::HEADER + size;

@@ -16,7 +16,7 @@ use Rattle.rfc2865.specs.Writer.{keeps}
 use Rattle.radius_writer.specs.Answers.{headerAs}
 use Rattle.record.specs.Written.{answerOf}
 use Rattle.radius_writer.proofs.Lengths.{sixteen}
-use Rattle.radius_writer.proofs.Sizes.{Known, was-over, was-size}
+use Rattle.radius_size.proofs.Sizes.{Known, was-over, was-size}
 use Rattle.radius_writer.proofs.Writing.{all-keep, bad-record, cut-off, too-long, no-room, fits, packet-put}
 use Rattle.radius_writer.proofs.write.Statement.{statement}
 use Rattle.radius_writer.proofs.write.Tie as tie

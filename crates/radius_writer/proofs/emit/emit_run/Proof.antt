@@ -10,7 +10,7 @@ use borrow.Author.Needs.{needs}
 use Rattle.octets.proofs.Lists.{rest}
 use Rattle.record.specs.Record.{recordSize}
 use Rattle.record.specs.Table.{tableOf}
-use Rattle.radius_writer.specs.Sizing.{lengths}
+use Rattle.radius_size.specs.Sizing.{lengths}
 use Rattle.radius_writer.proofs.Runs.{Going, none-put, one-put, all-put}
 use Rattle.record.proofs.Steps.{from, none-left, next}
 use Rattle.radius_writer.proofs.emit.emit_run.Statement.{statement}
