@@ -89,6 +89,8 @@ use Rattle.count.proofs.count_run.Reads as count-run
 use Rattle.fits.proofs.count_fitting.Reads as count-fitting
 use Rattle.rules.proofs.header_size.Reads as record-header-size
 use Rattle.rules.proofs.keepers.Reads as keepers
+use Rattle.radius_rules.proofs.keepers.Reads as attribute-keepers
+use Rattle.radius_size.proofs.size_run.Reads as size-run
 use Rattle.radius_value.proofs.types.kind.Reads as type-kind
 use Rattle.radius_value.proofs.read.Reads as attribute-value-read
 use Rattle.results.proofs.of_message.Reads as of-message
@@ -471,6 +473,14 @@ write-one κs fields table pool out r r′ after after′ p q =
     let at-exit = p .1 in
     let at-exit′ = q .1 in
     (e, cc)
+
+-- ---- radius_rules and radius_size
+
+attribute-keepers-one : Single attribute-keepers.Post
+attribute-keepers-one κs a r r′ s p q = p ∙ sym q
+
+size-run-one : Single size-run.Post
+size-run-one κs a r r′ s p q = p ∙ sym q
 
 -- ---- radius_value, radius_attributes, radius and radius_writer
 
