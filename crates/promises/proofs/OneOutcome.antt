@@ -91,6 +91,7 @@ use Rattle.rules.proofs.header_size.Reads as record-header-size
 use Rattle.rules.proofs.keepers.Reads as keepers
 use Rattle.radius_rules.proofs.keepers.Reads as attribute-keepers
 use Rattle.radius_size.proofs.size_run.Reads as size-run
+use Rattle.size.proofs.size_table.Reads as size-table
 use Rattle.radius_value.proofs.types.kind.Reads as type-kind
 use Rattle.radius_value.proofs.read.Reads as attribute-value-read
 use Rattle.results.proofs.of_message.Reads as of-message
@@ -464,6 +465,11 @@ record-header-size-one κs a r r′ s p q = p ∙ sym q
 
 keepers-one : Single keepers.Post
 keepers-one κs a r r′ s p q = p ∙ sym q
+
+-- ---- size
+
+size-table-one : Single size-table.Post
+size-table-one κs a r r′ s p q = p ∙ sym q
 
 -- ---- writer
 

@@ -25,8 +25,8 @@ use Rattle.record.proofs.Tables.{table-length}
 use Rattle.round_trip.proofs.Written.{writable-written}
 use Rattle.writer.specs.declared.emit.Taken.{Taken}
 use Rattle.writer.specs.Emitting.{Done}
-use Rattle.writer.specs.Sizing.{ownSizes}
-use Rattle.writer.proofs.Sizes.{sum-is}
+use Rattle.size.specs.Sizing.{ownSizes}
+use Rattle.size.proofs.Sizes.{sum-is}
 
 -- ---- the whole table is one run
 

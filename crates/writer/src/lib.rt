@@ -1,7 +1,6 @@
 // The writer: from header fields, a table of records and the bytes that its places point into, to a message.
 // Everything is checked and measured before the first byte is written, so a refusal has changed none.
 mod emit;
-mod size;
 
 use header::Header;
 use record::Record;

@@ -16,8 +16,8 @@ use Rattle.round_trip.specs.Tables.{run}
 use Rattle.writer.specs.Answers.{fieldsAs}
 use Rattle.record.specs.Written.{answerOf}
 use Rattle.writer.specs.Emitting.{Done}
-use Rattle.writer.specs.Sizing.{ownSizes}
-use Rattle.writer.proofs.Sizes.{Known, was-over, was-size}
+use Rattle.size.specs.Sizing.{ownSizes}
+use Rattle.size.proofs.Sizes.{Known, was-over, was-size}
 use Rattle.writer.proofs.Writing.{total, all-valid, bad-header, bad-record, cut-off, too-long, no-room, fits, message-put}
 use Rattle.writer.proofs.write.Statement.{statement}
 use Rattle.writer.proofs.write.Tie as tie

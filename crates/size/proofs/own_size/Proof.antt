@@ -1,9 +1,9 @@
 -- `own_size` meets its contract: the kind says whether it is a group, as in the definition.
 use borrow.Author.Needs.{needs}
 use Rattle.rules.proofs.Records.{is-group, no-group}
-use Rattle.writer.specs.Sizing.{ownSize}
-use Rattle.writer.proofs.size.own_size.Statement.{statement}
-use Rattle.writer.proofs.size.own_size.Tie as tie
+use Rattle.size.specs.Sizing.{ownSize}
+use Rattle.size.proofs.own_size.Statement.{statement}
+use Rattle.size.proofs.own_size.Tie as tie
 
 returns : tie.Need-returns
 unfolding ownSize

@@ -16,8 +16,8 @@ use Rattle.round_trip.specs.Forests.{size}
 use Rattle.round_trip.specs.Rules.{Valid}
 use Rattle.round_trip.proofs.Rules.{keeps-good, after-leaf}
 use Rattle.round_trip.proofs.Turns.{none-deeper}
-use Rattle.writer.specs.declared.size.Measured.the-variants.{Over, Size}
-use Rattle.writer.specs.Sizing.{ownSize, ownSizes, sizedOf}
+use Rattle.size.specs.declared.Measured.the-variants.{Over, Size}
+use Rattle.size.specs.Sizing.{ownSize, ownSizes, sizedOf}
 
 -- ---- facts and answers
 

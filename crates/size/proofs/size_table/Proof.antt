@@ -10,10 +10,10 @@ use Rattle.record.specs.Record.{recordSize}
 use Rattle.record.specs.Table.{tableOf}
 use Rattle.record.proofs.Steps.{from, none-left}
 use Rattle.rules.proofs.Entries.{next-part}
-use Rattle.writer.specs.Sizing.{ownSizes}
-use Rattle.writer.proofs.Sizes.{is-over, is-size}
-use Rattle.writer.proofs.size.size_table.Statement.{statement}
-use Rattle.writer.proofs.size.size_table.Tie as tie
+use Rattle.size.specs.Sizing.{ownSizes}
+use Rattle.size.proofs.Sizes.{is-over, is-size}
+use Rattle.size.proofs.size_table.Statement.{statement}
+use Rattle.size.proofs.size_table.Tie as tie
 
 abbrev Inv-loop : tie.InvT-loop
 Inv-loop table left records₀ size₀ records size =

@@ -5,8 +5,8 @@ use mathlib.Core.List.{List, [], _∷_}
 use lib.Dec.{ltb}
 use Rattle.record.specs.Record.{Record}
 use Rattle.rfc6733.specs.Writer.{isGroup, headOf}
-use Rattle.writer.specs.declared.size.Measured.{Measured}
-use Rattle.writer.specs.declared.size.Measured.the-variants.{Over, Size}
+use Rattle.size.specs.declared.Measured.{Measured}
+use Rattle.size.specs.declared.Measured.the-variants.{Over, Size}
 
 -- the bytes that a record puts itself: a group its header, since its members put their own; any other its AVP with the padding
 unfoldable pub ownSize : Record → ℕ

@@ -4,10 +4,10 @@ use record::kinds::GROUPED;
 use rules::header_size;
 ghost use mathlib.Core.Path.{_≡_};
 ghost use Rattle.record.specs.Table.{tableOf};
-ghost use Rattle.writer.specs.Sizing.{ownSize, ownSizes, sizedOf};
+ghost use Rattle.size.specs.Sizing.{ownSize, ownSizes, sizedOf};
 
-// The bytes of a table's AVPs, or that they are more than were left.
-pub(super) enum Measured {
+/// The bytes of a table's AVPs, or that they are more than were left.
+pub enum Measured {
     Over,
     Size(usize),
 }
@@ -22,8 +22,8 @@ fn own_size(r: Record) -> usize
     r.length as usize + r.padding as usize
 }
 
-// The size of a table's AVPs, if it is no more than what is left.
-pub(super) fn size_table(table: &[u8], left: usize) -> Measured
+/// The size of a table's AVPs, if it is no more than what is left.
+pub fn size_table(table: &[u8], left: usize) -> Measured
     ensures { λ m. ⌜ m ≡ sizedOf left (ownSizes (tableOf (now (table .entry)))) ⌝ }
 {
     let mut records: usize = 0;
