@@ -92,6 +92,7 @@ use Rattle.rules.proofs.keepers.Reads as keepers
 use Rattle.radius_rules.proofs.keepers.Reads as attribute-keepers
 use Rattle.radius_size.proofs.size_run.Reads as size-run
 use Rattle.size.proofs.size_table.Reads as size-table
+use Rattle.writable.proofs.answer.Reads as writable-answer
 use Rattle.radius_value.proofs.types.kind.Reads as type-kind
 use Rattle.radius_value.proofs.read.Reads as attribute-value-read
 use Rattle.results.proofs.of_message.Reads as of-message
@@ -118,6 +119,7 @@ use Rattle.avps.proofs.AnswerOf as avps-answers
 use Rattle.diameter.proofs.AnswerOf as diameter-answers
 use Rattle.record.proofs.AnswerOf as writer-answers
 use Rattle.radius_attributes.proofs.AnswerOf as attributes-answers
+use Rattle.writable.proofs.OneAnswer.{one-answer}
 use Rattle.radius.proofs.AnswerOf as packet-answers
 use Rattle.radius_value.proofs.ValueAs.{value-as-injective}
 
@@ -466,12 +468,13 @@ record-header-size-one κs a r r′ s p q = p ∙ sym q
 keepers-one : Single keepers.Post
 keepers-one κs a r r′ s p q = p ∙ sym q
 
--- ---- size
+-- ---- size, writable and writer
 
 size-table-one : Single size-table.Post
 size-table-one κs a r r′ s p q = p ∙ sym q
 
--- ---- writer
+writable-answer-one : Single writable-answer.Post
+writable-answer-one κs a r r′ s p q = writer-answers.answer-of-injective r r′ (one-answer _ _ _ _ _ _ p q)
 
 write-one : (κs : Lfts 3) (fields : Fields) (table pool out : Slice) → Settled (Write κs fields table pool out)
 write-one κs fields table pool out r r′ after after′ p q =

@@ -1,4 +1,4 @@
+pub mod Message
 pub mod Parts
 pub mod Runs
 pub mod Steps
-pub mod Writing

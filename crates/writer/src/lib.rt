@@ -3,10 +3,7 @@
 mod emit;
 
 use header::Header;
-use record::Record;
 use record::written::Written;
-use refusal::Refusal;
-use size::Measured;
 ghost use mathlib.Core.Path.{_≡_};
 ghost use Prim.Native.Nat.{_≤_};
 ghost use lib.ListN.{length};
@@ -25,11 +22,6 @@ pub struct Fields {
 }
 
 impl Fields {
-    // The command code and the message's length are numbers of 24 bits.
-    const MOST_CODE: u32 = 0xFF_FFFF;
-
-    const MOST_LENGTH: usize = 0xFF_FFFF;
-
     // Puts a message's header (RFC 6733, section 3), with its length.
     fn put(self, n: u32, out: &mut [u8])
         requires { ⌜ 20 ≤ length (now out) ⌝ }
@@ -48,25 +40,10 @@ pub fn write(fields: Fields, table: &[u8], pool: &[u8], out: &mut [u8]) -> Writt
     ensures answer { λ r. ⌜ answerOf r ≡ written (fieldsAs fields) (now (table .entry)) (now (pool .entry)) (length (now (out .entry))) ⌝ }
     ensures out { λ r. ⌜ now (out .exit) ≡ outputAfter (fieldsAs fields) (now (table .entry)) (now (pool .entry)) (now (out .entry)) r ⌝ }
 {
-    if Fields::MOST_CODE < fields.code {
-        return Written::Refused(Refusal::BadHeader);
-    }
-    let count = table.len() / Record::SIZE;
-    let remainder = table.len() % Record::SIZE;
-    let kept = rules::keepers(table, pool.len());
-    if kept < count {
-        return Written::Refused(Refusal::BadTable(kept));
-    }
-    if remainder != 0 {
-        return Written::Refused(Refusal::BadTable(count));
-    }
-    let Measured::Size(size) = size::size_table(table, Fields::MOST_LENGTH - Header::SIZE) else {
-        return Written::Refused(Refusal::TooLong);
+    let answer = writable::answer(fields.code, table, pool.len(), out.len());
+    let Written::Accepted(total) = answer else {
+        return answer;
     };
-    let total = Header::SIZE + size;
-    if out.len() < total {
-        return Written::Refused(Refusal::NoRoom(total));
-    }
     emit::emit_run(table, pool, 1, &mut out[Header::SIZE..]);
     fields.put(total as u32, out);
     Written::Accepted(total)

@@ -1,33 +1,31 @@
--- `write` meets its contract: its tests are the refusals of the definition, in their order, and each refusal leaves before a byte is
--- put. The size that was measured is the message's without its header, so what is put fits.
-use Prim.Native.Nat.{ℕ}
-use mathlib.Core.Path.{refl, sym, _∙_}
+-- `write` meets its contract: the answer is asked for before a byte is put, and where it is a size, the message has that size and fits.
+use Prim.Native.Nat.{ℕ, _+_, _-_, _≤_}
+use mathlib.Core.Path.{_≡_, refl, sym, ap, _∙_}
 use mathlib.Core.List.{List}
 use native.Mathlib.Omega.{arith}
 use lib.ListN.{length, drop, length-drop}
 use denote.Ref.{now}
 use borrow.Author.Needs.{needs}
+use borrow.Rule.Slice.PartMut.{same-len-mid}
 use Rattle.octets.proofs.Lists.{rest}
+use Rattle.refusal.specs.Answer.{accepted}
 use Rattle.rfc6733.specs.Writer as definition
-use Rattle.record.specs.Table.{tableOf}
 use Rattle.record.specs.Store.{output}
-use Rattle.round_trip.specs.Rules.{Valid}
-use Rattle.round_trip.specs.Tables.{run}
-use Rattle.writer.specs.Answers.{fieldsAs}
 use Rattle.record.specs.Written.{answerOf}
+use Rattle.round_trip.specs.Tables.{run}
+use Rattle.round_trip.proofs.Written.{Writable, written-writable}
+use Rattle.writer.specs.Answers.{fieldsAs}
 use Rattle.writer.specs.Emitting.{Done}
-use Rattle.size.specs.Sizing.{ownSizes}
-use Rattle.size.proofs.Sizes.{Known, was-over, was-size}
-use Rattle.writer.proofs.Writing.{total, all-valid, bad-header, bad-record, cut-off, too-long, no-room, fits, message-put}
+use Rattle.writer.proofs.Message.{message-long, message-put}
 use Rattle.writer.proofs.write.Statement.{statement}
 use Rattle.writer.proofs.write.Tie as tie
 
--- past the rules of the table, and past all refusals
-abbrev start : tie.Else2 → tie.Start
+-- the answer is a size
+abbrev start : tie.After-known-told → tie.Start
 start c = c .before .before .before .before .before .before .before
 
-abbrev kept : tie.Else4 → tie.Else2
-kept c = c .before .before .before .before .before .before
+abbrev total : tie.After-known-told → ℕ
+total c = c .before .answer2 .given .0 .0
 
 -- what is read and what is written over
 abbrev table : tie.Start → List ℕ
@@ -42,101 +40,77 @@ out b = now (b .args .out)
 abbrev fields : tie.Start → definition.Fields
 fields b = fieldsAs (b .args .fields)
 
-table-valid : (c : tie.Else2) → let b = start c in Valid 1 (length (pool b)) (tableOf (table b))
-table-valid c = let b = start c in all-valid (table b) (pool b) _ (c .before .keepers .ensures) (omega arith)
-
-size-known : (c : tie.After-known-told)
-    → let b = start (c .before .before .before .before .before) in
-    Known 16777195 (ownSizes (tableOf (table b))) (c .before .size .given .0 .0)
-size-known c = was-size _ _ _ (sym (c .before .size .given .1) ∙ c .before .before .before .size-table .ensures)
-
-members-put : (c : tie.After-emit-run)
-    → let b = start (kept (c .before .before)) in
-    Done (run 1 (table b)) (pool b) (c .emit-run .result) (drop 20 (out b)) (c .emit-run .last .1 .1 .1 .0)
-members-put c = let b = start (kept (c .before .before)) in rw (rest (out b) 20 (omega arith)) at (c .emit-run .ensures)
-
 returns : tie.Need-returns
 unfolding answerOf output fieldsAs
-returns c = (bad-header (fields (c .before .before .before .before .before)) _ _ _ (omega arith), refl)
+returns c =
+    let b = c .before .before .before .before .before .before in
+    (c .before .before .answer .ensures (fields b) (pool b) refl refl, rw (c .enum-told .given .1))
+
+told : (c : tie.After-known-told) → let b = start c in accepted (total c) ≡ definition.written (fields b) (table b) (pool b) (length (out b))
+unfolding answerOf fieldsAs
+told c =
+    let b = start c in
+    ap answerOf (sym (c .before .answer2 .given .1)) ∙ c .before .before .before .answer .ensures (fields b) (pool b) refl refl
+
+writable : (c : tie.After-known-told)
+    → let b = start c in
+    Writable (fields b) (table b) (pool b) (length (out b)) × (length (definition.tableBytes (fields b) (table b) (pool b)) ≡ total c)
+writable c = let b = start c in written-writable (fields b) (table b) (pool b) (length (out b)) (total c) (sym (told c))
+
+-- the room for the AVPs
+record Fit (before avps : List ℕ) (total : ℕ) : Type 0 where
+  pub long : total ≡ 20 + length avps
+  pub short : total ≤ definition.most24
+  pub fits : total ≤ length before
+
+fit : (c : tie.After-known-told) → let b = start c in Fit (out b) (definition.forestBytes (pool b) (run 1 (table b))) (total c)
+fit c =
+    let b = start c in
+    let (w, is) = writable c in
+    omega (arith, message-long (fields b) (table b) (pool b) (w .valid), w .short, w .fits)
+
+members-put : (c : tie.After-emit-run)
+    → let b = start (c .before .before) in
+    Done (run 1 (table b)) (pool b) (c .emit-run .result) (drop 20 (out b)) (c .emit-run .last .1 .1 .1 .0)
+members-put c = rw (rest (out (start (c .before .before))) 20 (omega (arith, fit (c .before .before)))) at (c .emit-run .ensures)
+
+emit-run-requires : tie.Need-emit-run-requires
+emit-run-requires c κs =
+    let known = c .before in
+    let b = start known in
+    let l = length-drop 20 (out b) in
+    let f = fit known in
+    rw (rest (out b) 20 (omega arith)) (record { valid = writable known .0 .valid; fits = omega arith; short = omega arith })
+
+put-requires : tie.Need-put-requires
+put-requires c κs =
+    let ran = c .before .before .before in
+    let out = out (start (ran .before .before)) in
+    let kept = same-len-mid 20 (length out - 20) out (ran .emit-run .last .1 .1 .1 .0) (ran .emit-run .kept .1 .1 .1 .0) in
+    omega (arith, fit (ran .before .before))
 
 returns-2 : tie.Need-returns-2
 unfolding answerOf output fieldsAs
 returns-2 c =
-    let b = c .before .before .before .before .before .before .before in
-    (bad-record (fields b) _ _ _ (omega arith) _ (c .before .keepers .ensures) (omega arith), refl)
-
-returns-3 : tie.Need-returns-3
-unfolding answerOf output fieldsAs
-returns-3 c =
-    let b = start (c .before) in
-    (cut-off (fields b) (table b) _ _ (omega arith) _ (c .before .before .keepers .ensures) (omega arith) (c .if3 .taken), refl)
-
-returns-4 : tie.Need-returns-4
-unfolding answerOf output fieldsAs
-returns-4 c =
-    let past = c .before .before .before .before in
-    let over = was-over _ _ (sym (c .enum-told .given .1) ∙ c .before .before .size-table .ensures) in (
-      too-long (fields (start past)) _ _ _ (omega arith) _ (past .before .keepers .ensures) (omega arith) (omega arith) (omega arith),
-      refl,
-    )
-
-returns-5 : tie.Need-returns-5
-unfolding answerOf output fieldsAs
-returns-5 c =
-    let past = c .before .before .before .before .before .before in
-    let k = size-known (c .before) in (
-      no-room (fields (start past)) _ _ _ (omega arith) _ (past .before .keepers .ensures) (omega arith) (omega arith) (omega arith) _
-          (omega arith) (omega arith),
-      refl,
-    )
-
-emit-run-requires : tie.Need-emit-run-requires
-emit-run-requires c κs =
-    let past = kept (c .before) in
-    let b = start past in
-    let k = size-known (c .before .before) in
-    let v = table-valid past in
-    let t = total (fields b) (table b) (pool b) v in
-    let l = length-drop 20 (out b) in
-    rw (rest (out b) 20 (omega arith)) (record { valid = v; fits = omega arith; short = omega arith })
-
-returns-6 : tie.Need-returns-6
-unfolding answerOf output fieldsAs
-returns-6 c =
     let put = c .before .before in
     let ran = put .before .before .before .before in
-    let fit = ran .before .before in
-    let past = kept fit in
-    let f = fields (start past) in
-    let k = size-known (fit .before) in
-    let short = past .before .before .if1 .left in
-    let all = past .if2 .left in
-    let none-cut = fit .before .before .before .before .before .if3 .left in
-    let room = fit .if4 .left in (
-      fits f _ _ _ (omega arith) _ (past .before .keepers .ensures) (omega arith) (omega arith) (omega arith) _ (omega arith) (omega arith),
-      message-put f _ _ (table-valid past) _ _ _ _ _ (omega arith) (omega arith) (members-put ran) (put .put .ensures),
-    )
+    let known = ran .before .before in
+    let (w, is) = writable known in
+    (told known, message-put (fields (start known)) _ _ (w .valid) _ _ _ _ _ (omega (arith, fit known)) is (members-put ran) (put .put .ensures))
 
 pub write-spec : {M : Type 1} → statement M
 write-spec =
     tie.close
     (tie.spec
+    (λ c κs. tt)
+    (λ c. search needs)
+    (λ c. search needs)
     returns
-    (λ c κs. tt)
-    returns-2
-    returns-3
-    (λ c. search needs)
-    (λ c κs. tt)
-    (λ c. search needs)
-    (λ c. search needs)
-    returns-4
-    (λ c. omega (arith, size-known c))
-    returns-5
-    (λ c. search needs)
-    (λ c. search needs)
+    (λ c. omega (arith, fit c))
+    (λ c. omega (arith, fit c))
     (λ c. search needs)
     emit-run-requires
-    (λ c. omega (arith, size-known (c .before .before .before .before .before)))
-    (λ c κs. search needs)
+    (λ c. omega (arith, fit (c .before .before .before .before)))
+    put-requires
     (λ c. search needs)
-    returns-6)
+    returns-2)
