@@ -15,6 +15,7 @@ use Rattle.reader.specs.declared.Reader.{Reader}
 use Rattle.writer.specs.declared.Fields.{Fields}
 use Rattle.radius_writer.specs.declared.Fields as packet
 use Rattle.promises.proofs.OneOutcome.Calls.{Slice, PutWord, PutLong, RecordPut, PutFound, Clear, ParseAvps, Parse, ParseAvp, ParseBy, ParseAvpBy, Dump, Write, TandrekilyMessage, TandrekilyHeader, TandrekilyAvp, TandrekilyMessageBy, TandrekilyAvpBy, TandrekilyFind, TandrekilyNext, TandrekilyWrite, TandrekilyCompare, ParseAttributes, ParsePacket, WritePacket, TandrekilyRadius, TandrekilyRadiusWrite}
+use Rattle.promises.proofs.OneOutcome.Calls.{Slice, PutWord, PutLong, Copy, PutPadding, RecordPut, PutFound, Clear, ParseAvps, Parse, ParseAvp, ParseBy, ParseAvpBy, Dump, Write, TandrekilyMessage, TandrekilyHeader, TandrekilyAvp, TandrekilyMessageBy, TandrekilyAvpBy, TandrekilyFind, TandrekilyNext, TandrekilyWrite, TandrekilyCompare, ParsePacket, WritePacket, TandrekilyRadius, TandrekilyRadiusWrite}
 use Rattle.promises.proofs.OneOutcome.ByHand.{ReaderNew, ReaderNext, ReaderFind}
 use Rattle.octets.proofs.be_u16.Reads as be-u16
 use Rattle.octets.proofs.be_u24.Reads as be-u24
@@ -468,13 +469,20 @@ record-header-size-one κs a r r′ s p q = p ∙ sym q
 keepers-one : Single keepers.Post
 keepers-one κs a r r′ s p q = p ∙ sym q
 
--- ---- size, writable and writer
+-- ---- size, writable, body and writer
 
 size-table-one : Single size-table.Post
 size-table-one κs a r r′ s p q = p ∙ sym q
 
 writable-answer-one : Single writable-answer.Post
 writable-answer-one κs a r r′ s p q = writer-answers.answer-of-injective r r′ (one-answer _ _ _ _ _ _ p q)
+
+copy-one : (κs : Lfts 2) (src dst : Slice) (after after′ : Slice) → Copy κs src dst after → Copy κs src dst after′ → now after ≡ now after′
+copy-one κs src dst after after′ p q = p ∙ sym q
+
+put-padding-one : (κs : Lfts 1) (pads : ℕ) (out : Slice) (after after′ : Slice) → PutPadding κs pads out after → PutPadding κs pads out after′
+    → now after ≡ now after′
+put-padding-one κs pads out after after′ p q = p ∙ sym q
 
 write-one : (κs : Lfts 3) (fields : Fields) (table pool out : Slice) → Settled (Write κs fields table pool out)
 write-one κs fields table pool out r r′ after after′ p q =

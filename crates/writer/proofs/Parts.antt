@@ -4,14 +4,15 @@ use Prim.Native.Nat.{ℕ, _+_, _-_, _≤_}
 use mathlib.Core.Path.{_≡_, sym, _∙_}
 use mathlib.Core.Bool.{true, false}
 use mathlib.Core.List.{List, [], _∷_, _++_, append-assoc}
-use native.Mathlib.Nat.{zero-add}
 use native.Mathlib.Omega.{arith}
-use lib.ListN.{length, getD, set, take, drop, length-append, length-drop}
-use lib.Seq.{length-take-le, sets, sets-eq, take-all}
+use lib.ListN.{length, take, drop, length-append, length-drop}
+use lib.Seq.{length-take-le, sets}
 use borrow.Rule.Slice.PartMut.{putMid}
-use Rattle.octets.specs.Octets.{be, Bytes, field, octets, pack, over, Put}
-use Rattle.octets.proofs.Numbers.{written-read}
-use Rattle.octets.proofs.Lists.{rest, lent, over-more}
+use Rattle.octets.specs.Octets.{field, octets, pack, over, Put}
+use Rattle.octets.proofs.Numbers.{length-octets}
+use Rattle.octets.proofs.Lists.{over-more}
+use Rattle.body.specs.Body.{putAll}
+use Rattle.body.proofs.Puts.{bytes-put, all-put, part-put}
 use Rattle.flags.specs.Flags.{bit}
 use Rattle.rfc6733.specs.Avp.{vendorBit, headSize, padding}
 use Rattle.record.specs.Record.{Record}
@@ -19,17 +20,6 @@ use Rattle.rfc6733.specs.Writer.{Fields, headOf, statedData, avpBytes, headerFi
 use Rattle.round_trip.specs.Rules.{Leaf}
 use Rattle.round_trip.proofs.Lengths.{head-length, avp-length}
 use Rattle.writer.specs.Emitting.{LeafRoom}
-
-bytes-put : (bs l : List ℕ) → length bs ≤ length l → sets l 0 bs ≡ over bs l
-unfolding over
-bytes-put bs l h = rw (sets-eq bs l 0 (omega arith), zero-add)
-
--- four bytes, read as a number and put
-pub word-copied : (src dst : List ℕ) (v : ℕ) → Bytes src → length src ≡ 4 → 4 ≤ length dst → v ≡ be 4 src 0
-    → sets dst 0 (octets 4 v) ≡ over src dst
-word-copied src dst v bytes four room read =
-    let same : octets 4 (be 4 src 0) ≡ src = written-read 4 src 0 (omega arith) bytes ∙ take-all 4 src (omega arith) in
-    rw (read, same) (bytes-put src dst (omega arith))
 
 -- ---- a message's header
 
@@ -60,21 +50,6 @@ module _ (r : Record) (n : ℕ) (l : List ℕ) where
       let fs = field 4 (r .code) ∷ field 1 (r .flags) ∷ field 3 n ∷ field 4 (r .vendor) ∷ [] in
       rw e (bytes-put (pack fs) l (rw (with-vendor r e) at h))
 
--- ---- padding, byte by byte
-
-module _ (r : Record) (l : List ℕ) {bs : List ℕ} (is : bs ≡ octets 3 (r .pads)) where
-  pub one-pad : r .padding ≡ 1 → 1 ≤ length l → set l 0 (getD bs 0 0) ≡ over (padBytes r) l
-  unfolding octets
-  one-pad e h = rw (e, is) (bytes-put (take 1 (octets 3 (r .pads))) l h)
-
-  pub two-pads : r .padding ≡ 2 → 2 ≤ length l → set (set l 0 (getD bs 0 0)) 1 (getD bs 1 0) ≡ over (padBytes r) l
-  unfolding octets
-  two-pads e h = rw (e, is) (bytes-put (take 2 (octets 3 (r .pads))) l h)
-
-  pub three-pads : r .padding ≡ 3 → 3 ≤ length l → set (set (set l 0 (getD bs 0 0)) 1 (getD bs 1 0)) 2 (getD bs 2 0) ≡ over (padBytes r) l
-  unfolding octets
-  three-pads e h = rw (e, is) (bytes-put (octets 3 (r .pads)) l h)
-
 -- ---- an AVP that is no group: its sizes
 
 pub record Sizes (pool : List ℕ) (r : Record) : Type 0 where
@@ -92,36 +67,44 @@ leaf-sizes pool r l =
 
 -- ---- its bytes, the parts as they were lent and came back
 
+-- bytes over all of a part behind the n that were put before
+put-behind : (a b l : List ℕ) {q back : List ℕ} {n k : ℕ} → q ≡ over a l → length a ≡ n → length b ≡ k → n + k ≤ length q
+    → back ≡ over b (take k (drop n q)) → putMid n k q back ≡ over (a ++ b) l
+put-behind a b l {q} {n = n} q-is a-long b-long fits put =
+    rw (put, ← b-long, part-put b q n (omega arith), q-is, over-more a b l n a-long)
+
 module _ (r : Record) (pool l : List ℕ) (w : LeafRoom r pool (length l)) where
   pub leaf-put : {p src k m : List ℕ} {h : ℕ} → h ≡ headOf r → p ≡ over (pack (headFields r (r .length))) l → length p ≡ length l
-      → src ≡ take (r .place + (r .length - h) - r .place) (drop (r .place) pool)
-      → k ≡ over src (take (length p - h) (drop h p)) → length (putMid h (length p - h) p k) ≡ length l
-      → let q = putMid h (length p - h) p k in
-      m ≡ over (padBytes r) (take (length q - r .length) (drop (r .length) q))
-      → Put (r .length + r .padding) (avpBytes r (dataIn pool r)) l (putMid (r .length) (length q - r .length) q m)
+      → src ≡ take (r .place + (r .length - h) - r .place) (drop (r .place) pool) → k ≡ putAll src (take (r .length - h) (drop h p))
+      → let q = putMid h (r .length - h) p k in
+      let part = take (r .length + r .padding - r .length) (drop (r .length) q) in
+      length q ≡ length l → m ≡ over (take (length part) (octets 3 (r .pads))) part
+      → Put (r .length + r .padding) (avpBytes r (dataIn pool r)) l (putMid (r .length) (r .length + r .padding - r .length) q m)
   unfolding avpBytes
   leaf-put {p} {src} {k} {m} {h} eh ep lp es ek lq em =
-      let q = putMid h (length p - h) p k in
+      let q = putMid h (r .length - h) p k in
       let head = pack (headFields r (r .length)) in
       let body = dataIn pool r in
       let s = leaf-sizes pool r (w .leaf) in
       let long = w .leaf .long in
+      let room = w .fits in
       let head-is = head-length r (r .length) ∙ sym eh in
       let n : r .place + (r .length - h) - r .place ≡ statedData r = omega arith in
-      let data-put : k ≡ over body (drop h p) = ek ∙ rw (rest p h (omega (arith, w .fits)), es, n) in
+      let src-is : src ≡ body = es ∙ rw n in
+      let into = length-take-le (r .length - h) (drop h p) (omega (arith, length-drop h p)) in
+      let data-put : k ≡ over body (take (r .length - h) (drop h p)) =
+      ek ∙ rw (src-is, all-put body (take (r .length - h) (drop h p)) (omega (arith, s .data-is)))
+      in
+      let front : q ≡ over (head ++ body) l = put-behind head body l {k = r .length - h} ep head-is (omega (arith, s .data-is)) (omega arith) data-put in
+      let behind = length-take-le (r .length + r .padding - r .length) (drop (r .length) q) (omega (arith, length-drop (r .length) q)) in
+      let few : length (padBytes r) ≡ r .padding =
+      length-take-le (r .padding) (octets 3 (r .pads)) (omega (arith, s .padding-few, length-octets 3 (r .pads)))
+      in
+      let count : length (take (r .length + r .padding - r .length) (drop (r .length) q)) ≡ r .padding = omega arith in
       record {
         size-is = sym (s .avp-is);
         out-is =
-            rw (
-              s .data-is,
-              lent (r .length) q m,
-              em,
-              rest q (r .length) (omega (arith, w .fits)),
-              lent h p k,
-              data-put,
-              ep,
-              over-more head body l h head-is,
-              over-more (head ++ body) (padBytes r) l (r .length) (omega (arith, length-append head body)),
-              append-assoc head body (padBytes r),
-            );
+            put-behind (head ++ body) (padBytes r) l {n = r .length} {k = r .length + r .padding - r .length} front (omega (arith, length-append head body, s .data-is)) (omega arith) (omega arith)
+            (em ∙ rw count)
+            ∙ rw (s .data-is, append-assoc head body (padBytes r));
       }

@@ -11,7 +11,7 @@ ghost use lib.Seq.{sets};
 ghost use Rattle.octets.specs.Octets.{octets, pack, over, Put};
 ghost use Rattle.record.specs.Record.{recordSize};
 ghost use Rattle.record.specs.Table.{entryAt};
-ghost use Rattle.rfc6733.specs.Writer.{headOf, avpBytes, headFields, padBytes, dataIn};
+ghost use Rattle.rfc6733.specs.Writer.{headOf, avpBytes, headFields, dataIn};
 ghost use Rattle.round_trip.specs.Tables.{run, one};
 ghost use Rattle.writer.specs.Emitting.{LeafRoom, Ready, Done};
 
@@ -36,18 +36,6 @@ pub(super) fn put_u8_u24(out: &mut [u8], at: usize, high: u8, low: u32)
     put_u32(out, at, high as u32 * 0x100_0000 + low % 0x100_0000);
 }
 
-// Data of four bytes, as most numbers have, are one word.
-fn copy(src: &[u8], dst: &mut [u8])
-    requires { ⌜ length (now src) ≤ length (now dst) ⌝ }
-    ensures { λ _. ⌜ now (dst .exit) ≡ over (now (src .entry)) (now (dst .entry)) ⌝ }
-{
-    if src.len() == 4 {
-        put_u32(dst, 0, word::be_u32(src));
-        return;
-    }
-    bytes::copy(src, dst);
-}
-
 // Puts the header of an AVP (RFC 6733, section 4.1), with its length.
 fn put_head(r: Record, n: u32, out: &mut [u8])
     requires { ⌜ (headOf r ≤ length (now out)) × (8 ≤ length (now out)) ⌝ }
@@ -61,25 +49,6 @@ fn put_head(r: Record, n: u32, out: &mut [u8])
     put_u32(out, 8, r.vendor);
 }
 
-fn put_padding(r: Record, out: &mut [u8])
-    requires { ⌜ (r .padding ≤ length (now out)) × (r .padding ≤ 3) ⌝ }
-    ensures { λ _. ⌜ now (out .exit) ≡ over (padBytes r) (now (out .entry)) ⌝ }
-{
-    if r.padding == 0 {
-        return;
-    }
-    let pads = octets::to_be_u24(r.pads);
-    out[0] = pads[0];
-    if r.padding == 1 {
-        return;
-    }
-    out[1] = pads[1];
-    if r.padding == 2 {
-        return;
-    }
-    out[2] = pads[2];
-}
-
 // Puts the AVP of a record that is no group, with its data from `pool`, and answers its size.
 fn emit_leaf(r: Record, pool: &[u8], out: &mut [u8]) -> usize
     requires { ⌜ LeafRoom r (now pool) (length (now out)) ⌝ }
@@ -87,12 +56,13 @@ fn emit_leaf(r: Record, pool: &[u8], out: &mut [u8]) -> usize
 {
     let header_size = header_size(r);
     let length = r.length as usize;
+    let size = length + r.padding as usize;
     let from = r.place as usize;
     let to = from + (length - header_size);
     put_head(r, r.length, out);
-    copy(&pool[from..to], &mut out[header_size..]);
-    put_padding(r, &mut out[length..]);
-    length + r.padding as usize
+    body::copy(&pool[from..to], &mut out[header_size..length]);
+    body::put_padding(r.pads, &mut out[length..size]);
+    size
 }
 
 // Puts the run that `table` starts with, its records at `depth` with their members.

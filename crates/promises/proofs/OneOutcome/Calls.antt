@@ -14,6 +14,8 @@ use Rattle.utf8.proofs.is_utf8.Reads as is-utf8
 use Rattle.record.specs.Record.{Record}
 use Rattle.word.proofs.put_u32.Reads as put-word
 use Rattle.word.proofs.put_u64.Reads as put-long
+use Rattle.body.proofs.copy.Reads as copy
+use Rattle.body.proofs.put_padding.Reads as put-padding
 use Rattle.record.proofs.Record.put.Reads as put
 use Rattle.record.proofs.Record.put_found.Reads as put-found
 use Rattle.record.proofs.clear.Reads as clear
@@ -70,6 +72,12 @@ PutWord κs out v out′ = put-word.Post κs (out, (v, tt)) tt (out′, (v, tt))
 
 abbrev pub PutLong : Lfts 1 → Slice → ℕ → Slice → Type 0
 PutLong κs out v out′ = put-long.Post κs (out, (v, tt)) tt (out′, (v, tt))
+
+abbrev pub Copy : Lfts 2 → Slice → Slice → Slice → Type 0
+Copy κs src dst dst′ = copy.Post κs (src, (dst, tt)) tt (src, (dst′, tt))
+
+abbrev pub PutPadding : Lfts 1 → ℕ → Slice → Slice → Type 0
+PutPadding κs pads out out′ = put-padding.Post κs (pads, (out, tt)) tt (pads, (out′, tt))
 
 abbrev pub RecordPut : Lfts 1 → Record → Slice → Bool → Slice → Type 0
 RecordPut κs self store r store′ = put.Post κs (self, (store, tt)) r (self, (store′, tt))

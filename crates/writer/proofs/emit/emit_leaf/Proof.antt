@@ -3,7 +3,7 @@ use Prim.Native.Nat.{ℕ, _+_, _-_, _≤_}
 use mathlib.Core.Path.{_≡_, refl, _∙_}
 use mathlib.Core.List.{List}
 use native.Mathlib.Omega.{arith}
-use lib.ListN.{length, length-take, length-drop}
+use lib.ListN.{length}
 use denote.Ref.{now}
 use borrow.Rule.Slice.PartMut.{putMid, same-len-mid}
 use borrow.Author.Needs.{needs}
@@ -19,13 +19,13 @@ abbrev start : tie.After-header-size → tie.Start
 start c = c .before .before .before
 
 abbrev sized : tie.After-put-head → tie.After-header-size
-sized c = c .before .before .before .before
+sized c = c .before .before .before .before .before
 
 abbrev put : tie.After-copy → tie.After-put-head
 put c = c .before .before .before .before .before
 
-abbrev copied : tie.After-struct-known3 → tie.After-copy
-copied c = c .before .before .before .before .before .before .before
+abbrev copied : tie.After-slice-known4 → tie.After-copy
+copied c = c .before .before .before .before .before .before
 
 -- the numbers by which it lends parts, with the header's size h
 record Numbers (r : Record) (pool : List ℕ) (room h : ℕ) : Type 0 where
@@ -49,7 +49,7 @@ abbrev output : tie.After-copy → List ℕ
 output c =
     let h = sized (put c) .header-size .result in
     let l = put c .put-head .last .1 .1 .0 in
-    putMid h (length l - h) l (c .copy .last .1 .0)
+    putMid h (start (sized (put c)) .args .r .length - h) l (c .copy .last .1 .0)
 
 copied-length : (c : tie.After-copy) → length (output c) ≡ length (now (start (sized (put c)) .args .out))
 copied-length c = search (same-len-mid, c .copy .kept .1 .0, put c .put-head .kept .1 .1 .0, _∙_)
@@ -59,7 +59,7 @@ returns c =
     let d = copied c in
     let p = put d in
     leaf-put (start (sized p) .args .r) _ _ (start (sized p) .pre) (sized p .header-size .ensures) (p .put-head .ensures)
-    (p .put-head .kept .1 .1 .0) refl (d .copy .ensures) (copied-length d) (c .before .before .before .put-padding .ensures)
+    (p .put-head .kept .1 .1 .0) refl (d .copy .ensures) (copied-length d) (c .before .before .put-padding .ensures)
 
 pub emit-leaf-spec : {M : Type 1} → statement M
 emit-leaf-spec =
@@ -68,21 +68,21 @@ emit-leaf-spec =
     (λ c κs. tt)
     (λ c. search needs)
     (λ c. search needs)
-    (λ c. omega (arith, sizes (c .before .before)))
-    (λ c. omega (arith, sizes (c .before .before)))
-    (λ c κs. omega (arith, sizes (c .before .before .before)))
+    (λ c. omega (arith, start (c .before .before) .good))
     (λ c. search needs)
-    (λ c. search needs)
+    (λ c. omega (arith, sizes (c .before .before .before)))
+    (λ c. omega (arith, sizes (c .before .before .before)))
+    (λ c κs. omega (arith, sizes (c .before .before .before .before)))
+    (λ c. omega arith)
+    (λ c. omega (arith, sizes (sized (c .before .before))))
     (λ c. omega (arith, sizes (sized (c .before .before))))
     (λ c. omega (arith, sizes (sized (c .before .before .before))))
-    (λ c. omega (arith, sizes (sized (c .before .before .before))))
-    (λ c. search needs)
-    (λ c κs. let p = c .before .before .before .before in simp (length-take, length-drop) (omega (arith, sizes (sized p), p .put-head .kept)))
-    (λ c. omega (arith, sizes (sized (put (c .before .before))), copied-length (c .before .before)))
-    (λ c. omega (arith, sizes (sized (put (c .before .before))), copied-length (c .before .before)))
-    (λ c. search needs)
-    (λ c κs. let d = c .before .before .before in simp (length-take, length-drop) (omega (arith, sizes (sized (put d)), copied-length d)))
-    (λ c. omega (arith, start (sized (put (copied c))) .good))
-    (λ c. omega (arith, start (sized (put (copied c))) .good))
+    (λ c. let p = c .before .before .before in omega (arith, sizes (sized p), p .put-head .kept))
+    (λ c. let p = c .before .before .before in omega (arith, sizes (sized p), p .put-head .kept))
+    (λ c κs. tt)
+    (λ c. omega arith)
+    (λ c. let d = c .before .before in omega (arith, sizes (sized (put d)), copied-length d))
+    (λ c. let d = c .before .before in omega (arith, sizes (sized (put d)), copied-length d))
+    (λ c κs. tt)
     (λ c. search (needs, copied-length (copied c)))
     returns)

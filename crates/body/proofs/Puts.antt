@@ -1,0 +1,58 @@
+-- Bytes that are put one by one, or as a word, or into a part that was lent, are put over the front as one.
+use Prim.Native.Nat.{ℕ, _+_, _≤_, _<_}
+use mathlib.Core.Path.{_≡_, _∙_}
+use mathlib.Core.List.{List, _++_, append-assoc}
+use native.Mathlib.Nat.{zero-add}
+use native.Mathlib.Omega.{arith}
+use lib.ListN.{length, getD, set, take, drop}
+use lib.Seq.{sets, sets-eq, take-all, drop-drop}
+use borrow.Rule.Slice.PartMut.{putMid}
+use borrow.Author.Tests.{le-leb, lt-leb}
+use Rattle.octets.specs.Octets.{be, Bytes, octets, over}
+use Rattle.octets.proofs.Numbers.{written-read}
+use Rattle.octets.proofs.Lists.{put-part}
+use Rattle.body.specs.Body.{putAll}
+
+pub bytes-put : (bs l : List ℕ) → length bs ≤ length l → sets l 0 bs ≡ over bs l
+unfolding over
+bytes-put bs l h = rw (sets-eq bs l 0 (omega arith), zero-add)
+
+-- ---- where there is room for all, and where not
+
+module _ (new old : List ℕ) where
+  pub all-put : length new ≤ length old → putAll new old ≡ over new old
+  unfolding putAll
+  all-put h = rw (le-leb (length new) (length old) h)
+
+  pub none-put : length old < length new → old ≡ putAll new old
+  unfolding putAll
+  none-put h = rw (lt-leb (length new) (length old) h)
+
+-- bytes over all of a part that was lent
+pub part-put : (new s : List ℕ) (at : ℕ) → at + length new ≤ length s
+    → putMid at (length new) s (over new (take (length new) (drop at s))) ≡ take at s ++ over new (drop at s)
+unfolding over
+part-put new s at h = put-part new s at h ∙ rw (sets-eq new s at h, drop-drop, append-assoc)
+
+-- four bytes, read as a number and put
+pub word-copied : (src dst : List ℕ) (v : ℕ) → Bytes src → length src ≡ 4 → 4 ≤ length dst → v ≡ be 4 src 0
+    → sets dst 0 (octets 4 v) ≡ over src dst
+word-copied src dst v bytes four room read =
+    let same : octets 4 (be 4 src 0) ≡ src = written-read 4 src 0 (omega arith) bytes ∙ take-all 4 src (omega arith) in
+    rw (read, same) (bytes-put src dst (omega arith))
+
+-- ---- padding, byte by byte
+
+module _ (pads : ℕ) (l : List ℕ) {bs : List ℕ} (is : bs ≡ octets 3 pads) where
+  pub one-pad : length l ≡ 1 → set l 0 (getD bs 0 0) ≡ over (take (length l) (octets 3 pads)) l
+  unfolding octets
+  one-pad e = rw (e, is) (bytes-put (take 1 (octets 3 pads)) l (omega arith))
+
+  pub two-pads : length l ≡ 2 → set (set l 0 (getD bs 0 0)) 1 (getD bs 1 0) ≡ over (take (length l) (octets 3 pads)) l
+  unfolding octets
+  two-pads e = rw (e, is) (bytes-put (take 2 (octets 3 pads)) l (omega arith))
+
+  pub three-pads : 3 ≤ length l
+      → set (set (set l 0 (getD bs 0 0)) 1 (getD bs 1 0)) 2 (getD bs 2 0) ≡ over (take (length l) (octets 3 pads)) l
+  unfolding octets
+  three-pads h = rw (is, take-all (length l) (octets 3 pads) h) (bytes-put (octets 3 pads) l h)
