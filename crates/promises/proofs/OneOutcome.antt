@@ -10,12 +10,14 @@ use contract.Lifetimes.{Lfts}
 use denote.Ref.{RefT, now}
 use Rattle.attribute.specs.declared.Reading.{Reading}
 use Rattle.attribute.specs.declared.Dictionary.{Dictionary}
+use Rattle.header.specs.declared.Header.{Header}
 use Rattle.record.specs.Record.{Record}
 use Rattle.reader.specs.declared.Reader.{Reader}
 use Rattle.writer.specs.declared.Fields.{Fields}
 use Rattle.radius_writer.specs.declared.Fields as packet
 use Rattle.promises.proofs.OneOutcome.Calls.{Slice, PutWord, PutLong, RecordPut, PutFound, Clear, ParseAvps, Parse, ParseAvp, ParseBy, ParseAvpBy, Dump, Write, TandrekilyMessage, TandrekilyHeader, TandrekilyAvp, TandrekilyMessageBy, TandrekilyAvpBy, TandrekilyFind, TandrekilyNext, TandrekilyWrite, TandrekilyCompare, ParseAttributes, ParsePacket, WritePacket, TandrekilyRadius, TandrekilyRadiusWrite}
 use Rattle.promises.proofs.OneOutcome.Calls.{Slice, PutWord, PutLong, Copy, PutPadding, RecordPut, PutFound, Clear, ParseAvps, Parse, ParseAvp, ParseBy, ParseAvpBy, Dump, Write, TandrekilyMessage, TandrekilyHeader, TandrekilyAvp, TandrekilyMessageBy, TandrekilyAvpBy, TandrekilyFind, TandrekilyNext, TandrekilyWrite, TandrekilyCompare, ParsePacket, WritePacket, TandrekilyRadius, TandrekilyRadiusWrite}
+use Rattle.promises.proofs.OneOutcome.Calls.{Slice, PutWord, PutLong, Copy, PutPadding, PutHeader, PutHead, RecordPut, PutFound, Clear, ParseAvps, Parse, ParseAvp, ParseBy, ParseAvpBy, Dump, Write, TandrekilyMessage, TandrekilyHeader, TandrekilyAvp, TandrekilyMessageBy, TandrekilyAvpBy, TandrekilyFind, TandrekilyNext, TandrekilyWrite, TandrekilyCompare, ParsePacket, WritePacket, TandrekilyRadius, TandrekilyRadiusWrite}
 use Rattle.promises.proofs.OneOutcome.ByHand.{ReaderNew, ReaderNext, ReaderFind}
 use Rattle.octets.proofs.be_u16.Reads as be-u16
 use Rattle.octets.proofs.be_u24.Reads as be-u24
@@ -469,7 +471,7 @@ record-header-size-one κs a r r′ s p q = p ∙ sym q
 keepers-one : Single keepers.Post
 keepers-one κs a r r′ s p q = p ∙ sym q
 
--- ---- size, writable, body and writer
+-- ---- size, writable, body, heads and writer
 
 size-table-one : Single size-table.Post
 size-table-one κs a r r′ s p q = p ∙ sym q
@@ -483,6 +485,14 @@ copy-one κs src dst after after′ p q = p ∙ sym q
 put-padding-one : (κs : Lfts 1) (pads : ℕ) (out : Slice) (after after′ : Slice) → PutPadding κs pads out after → PutPadding κs pads out after′
     → now after ≡ now after′
 put-padding-one κs pads out after after′ p q = p ∙ sym q
+
+put-header-one : (κs : Lfts 1) (h : Header) (out : Slice) (after after′ : Slice) → PutHeader κs h out after → PutHeader κs h out after′
+    → now after ≡ now after′
+put-header-one κs h out after after′ p q = p ∙ sym q
+
+put-head-one : (κs : Lfts 1) (r : Record) (n : ℕ) (out : Slice) (after after′ : Slice) → PutHead κs r n out after → PutHead κs r n out after′
+    → now after ≡ now after′
+put-head-one κs r n out after after′ p q = p ∙ sym q
 
 write-one : (κs : Lfts 3) (fields : Fields) (table pool out : Slice) → Settled (Write κs fields table pool out)
 write-one κs fields table pool out r r′ after after′ p q =

@@ -1,54 +1,23 @@
--- What is put part by part is the bytes of the definition over the front of the output: a header, field by field, and an AVP that is no
--- group, its header, its data and its padding one after the other.
+-- What is put part by part is the bytes of the definition over the front of the output: of an AVP that is no group its header, its data
+-- and its padding, one after the other.
 use Prim.Native.Nat.{ℕ, _+_, _-_, _≤_}
-use mathlib.Core.Path.{_≡_, sym, _∙_}
-use mathlib.Core.Bool.{true, false}
-use mathlib.Core.List.{List, [], _∷_, _++_, append-assoc}
+use mathlib.Core.Path.{_≡_, sym, ap, _∙_}
+use mathlib.Core.List.{List, [], _++_, append-assoc, append-nil}
 use native.Mathlib.Omega.{arith}
 use lib.ListN.{length, take, drop, length-append, length-drop}
-use lib.Seq.{length-take-le, sets}
+use lib.Seq.{length-take-le, drop-length}
 use borrow.Rule.Slice.PartMut.{putMid}
-use Rattle.octets.specs.Octets.{field, octets, pack, over, Put}
+use Rattle.octets.specs.Octets.{octets, pack, over, Put}
 use Rattle.octets.proofs.Numbers.{length-octets}
 use Rattle.octets.proofs.Lists.{over-more}
 use Rattle.body.specs.Body.{putAll}
-use Rattle.body.proofs.Puts.{bytes-put, all-put, part-put}
-use Rattle.flags.specs.Flags.{bit}
-use Rattle.rfc6733.specs.Avp.{vendorBit, headSize, padding}
+use Rattle.body.proofs.Puts.{all-put, part-put}
+use Rattle.rfc6733.specs.Avp.{padding}
 use Rattle.record.specs.Record.{Record}
-use Rattle.rfc6733.specs.Writer.{Fields, headOf, statedData, avpBytes, headerFields, headFields, padBytes, dataIn}
+use Rattle.rfc6733.specs.Writer.{headOf, statedData, avpBytes, headFields, padBytes, dataIn}
 use Rattle.round_trip.specs.Rules.{Leaf}
 use Rattle.round_trip.proofs.Lengths.{head-length, avp-length}
 use Rattle.writer.specs.Emitting.{LeafRoom}
-
--- ---- a message's header
-
-pub header-put : (f : Fields) (n : ℕ) (l : List ℕ) → 20 ≤ length l
-    → let front = sets (sets l 0 (octets 1 1 ++ octets 3 n)) 4 (octets 1 (f .flags) ++ octets 3 (f .code)) in
-    sets (sets (sets front 8 (octets 4 (f .appId))) 12 (octets 4 (f .hopId))) 16 (octets 4 (f .endId))
-    ≡ over (pack (headerFields f n)) l
-unfolding octets
-header-put f n l h = bytes-put (pack (headerFields f n)) l h
-
--- ---- an AVP's header
-
-pub with-vendor : (r : Record) → bit vendorBit (r .flags) ≡ true → headOf r ≡ 12
-unfolding headOf headSize
-with-vendor r e = rw e
-
-module _ (r : Record) (n : ℕ) (l : List ℕ) where
-  pub head-put : bit vendorBit (r .flags) ≡ false → 8 ≤ length l
-      → sets (sets l 0 (octets 4 (r .code))) 4 (octets 1 (r .flags) ++ octets 3 n) ≡ over (pack (headFields r n)) l
-  unfolding octets
-  head-put e h = rw e (bytes-put (pack (field 4 (r .code) ∷ field 1 (r .flags) ∷ field 3 n ∷ [])) l h)
-
-  pub vendor-put : bit vendorBit (r .flags) ≡ true → headOf r ≤ length l
-      → sets (sets (sets l 0 (octets 4 (r .code))) 4 (octets 1 (r .flags) ++ octets 3 n)) 8 (octets 4 (r .vendor))
-      ≡ over (pack (headFields r n)) l
-  unfolding octets
-  vendor-put e h =
-      let fs = field 4 (r .code) ∷ field 1 (r .flags) ∷ field 3 n ∷ field 4 (r .vendor) ∷ [] in
-      rw e (bytes-put (pack fs) l (rw (with-vendor r e) at h))
 
 -- ---- an AVP that is no group: its sizes
 
@@ -72,6 +41,16 @@ put-behind : (a b l : List ℕ) {q back : List ℕ} {n k : ℕ} → q ≡ over a
     → back ≡ over b (take k (drop n q)) → putMid n k q back ≡ over (a ++ b) l
 put-behind a b l {q} {n = n} q-is a-long b-long fits put =
     rw (put, ← b-long, part-put b q n (omega arith), q-is, over-more a b l n a-long)
+
+-- and over all of the first k
+pub put-front : (new l : List ℕ) {back : List ℕ} {k : ℕ} → length new ≡ k → k ≤ length l → back ≡ putAll new (take k l)
+    → back ++ drop k l ≡ over new l
+unfolding over
+put-front new l {k = k} long fits put =
+    let part = take k l in
+    let size = length-take-le k l fits in
+    let none : drop k part ≡ [] = sym (ap (λ (n : ℕ). drop n part) size) ∙ drop-length part in
+    rw (put, all-put new part (omega arith), long, none, append-nil)
 
 module _ (r : Record) (pool l : List ℕ) (w : LeafRoom r pool (length l)) where
   pub leaf-put : {p src k m : List ℕ} {h : ℕ} → h ≡ headOf r → p ≡ over (pack (headFields r (r .length))) l → length p ≡ length l

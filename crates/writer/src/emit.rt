@@ -1,17 +1,14 @@
 // Writes the AVPs of a table that is known to keep the rules and to fit: the run and the AVP call each other in turn.
-use avp::AVP;
 use record::Record;
 use record::kinds::GROUPED;
 use rules::header_size;
 ghost use mathlib.Core.Path.{_≡_};
-ghost use mathlib.Core.List.{_++_};
-ghost use Prim.Native.Nat.{_+_, _≤_};
+ghost use Prim.Native.Nat.{_≤_};
 ghost use lib.ListN.{length};
-ghost use lib.Seq.{sets};
-ghost use Rattle.octets.specs.Octets.{octets, pack, over, Put};
+ghost use Rattle.octets.specs.Octets.{Put};
 ghost use Rattle.record.specs.Record.{recordSize};
 ghost use Rattle.record.specs.Table.{entryAt};
-ghost use Rattle.rfc6733.specs.Writer.{headOf, avpBytes, headFields, dataIn};
+ghost use Rattle.rfc6733.specs.Writer.{avpBytes, dataIn};
 ghost use Rattle.round_trip.specs.Tables.{run, one};
 ghost use Rattle.writer.specs.Emitting.{LeafRoom, Ready, Done};
 
@@ -19,34 +16,6 @@ ghost use Rattle.writer.specs.Emitting.{LeafRoom, Ready, Done};
 pub(super) struct Taken {
     pub records: usize,
     pub size: usize,
-}
-
-pub(super) fn put_u32(out: &mut [u8], at: usize, v: u32)
-    requires { ⌜ at + 4 ≤ length (now out) ⌝ }
-    ensures { λ _. ⌜ now (out .exit) ≡ sets (now (out .entry)) at (octets 4 v) ⌝ }
-{
-    word::put_u32(&mut out[at..at + 4], v);
-}
-
-// A byte and then three bytes, as one number, since that is one store.
-pub(super) fn put_u8_u24(out: &mut [u8], at: usize, high: u8, low: u32)
-    requires { ⌜ at + 4 ≤ length (now out) ⌝ }
-    ensures { λ _. ⌜ now (out .exit) ≡ sets (now (out .entry)) at (octets 1 high ++ octets 3 low) ⌝ }
-{
-    put_u32(out, at, high as u32 * 0x100_0000 + low % 0x100_0000);
-}
-
-// Puts the header of an AVP (RFC 6733, section 4.1), with its length.
-fn put_head(r: Record, n: u32, out: &mut [u8])
-    requires { ⌜ (headOf r ≤ length (now out)) × (8 ≤ length (now out)) ⌝ }
-    ensures { λ _. ⌜ now (out .exit) ≡ over (pack (headFields r n)) (now (out .entry)) ⌝ }
-{
-    put_u32(out, 0, r.code);
-    put_u8_u24(out, 4, r.flags, n);
-    if !AVP::vendor_specific_flag(r.flags) {
-        return;
-    }
-    put_u32(out, 8, r.vendor);
 }
 
 // Puts the AVP of a record that is no group, with its data from `pool`, and answers its size.
@@ -59,7 +28,7 @@ fn emit_leaf(r: Record, pool: &[u8], out: &mut [u8]) -> usize
     let size = length + r.padding as usize;
     let from = r.place as usize;
     let to = from + (length - header_size);
-    put_head(r, r.length, out);
+    heads::put_head(r, r.length, &mut out[..header_size]);
     body::copy(&pool[from..to], &mut out[header_size..length]);
     body::put_padding(r.pads, &mut out[length..size]);
     size
@@ -101,7 +70,7 @@ fn emit_avp(r: Record, table: &[u8], pool: &[u8], out: &mut [u8]) -> Taken
             &mut out[header_size..],
         );
         let length = header_size + members.size;
-        put_head(r, length as u32, out);
+        heads::put_head(r, length as u32, &mut out[..header_size]);
         return Taken {
             records: 1 + members.records,
             size: length,

@@ -5,11 +5,10 @@ mod emit;
 use header::Header;
 use record::written::Written;
 ghost use mathlib.Core.Path.{_≡_};
-ghost use Prim.Native.Nat.{_≤_};
 ghost use lib.ListN.{length};
 ghost use Rattle.record.specs.Written.{answerOf};
-ghost use Rattle.octets.specs.Octets.{pack, over};
-ghost use Rattle.rfc6733.specs.Writer.{written, headerFields};
+ghost use Rattle.header.specs.Parsed.{headerAs};
+ghost use Rattle.rfc6733.specs.Writer.{written, headerWith};
 ghost use Rattle.writer.specs.Answers.{fieldsAs, outputAfter};
 
 /// The header fields of a message to be written; the version is 1 and the length is computed.
@@ -22,16 +21,19 @@ pub struct Fields {
 }
 
 impl Fields {
-    // Puts a message's header (RFC 6733, section 3), with its length.
-    fn put(self, n: u32, out: &mut [u8])
-        requires { ⌜ 20 ≤ length (now out) ⌝ }
-        ensures { λ _. ⌜ now (out .exit) ≡ over (pack (headerFields (fieldsAs self) n)) (now (out .entry)) ⌝ }
+    // The header of a message of `n` bytes.
+    fn header(self, n: u32) -> Header
+        ensures { λ h. ⌜ headerAs h ≡ headerWith 1 (fieldsAs self) n ⌝ }
     {
-        emit::put_u8_u24(out, 0, Header::VERSION, n);
-        emit::put_u8_u24(out, 4, self.flags, self.code);
-        emit::put_u32(out, 8, self.app_id);
-        emit::put_u32(out, 12, self.hop_id);
-        emit::put_u32(out, 16, self.end_id);
+        Header {
+            version: Header::VERSION,
+            length: n,
+            flags: self.flags,
+            code: self.code,
+            app_id: self.app_id,
+            hop_id: self.hop_id,
+            end_id: self.end_id,
+        }
     }
 }
 
@@ -45,6 +47,6 @@ pub fn write(fields: Fields, table: &[u8], pool: &[u8], out: &mut [u8]) -> Writt
         return answer;
     };
     emit::emit_run(table, pool, 1, &mut out[Header::SIZE..]);
-    fields.put(total as u32, out);
+    heads::put_header(fields.header(total as u32), &mut out[..Header::SIZE]);
     Written::Accepted(total)
 }

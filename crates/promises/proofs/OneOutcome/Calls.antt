@@ -16,6 +16,9 @@ use Rattle.word.proofs.put_u32.Reads as put-word
 use Rattle.word.proofs.put_u64.Reads as put-long
 use Rattle.body.proofs.copy.Reads as copy
 use Rattle.body.proofs.put_padding.Reads as put-padding
+use Rattle.header.specs.declared.Header.{Header}
+use Rattle.heads.proofs.put_header.Reads as put-header
+use Rattle.heads.proofs.put_head.Reads as put-head
 use Rattle.record.proofs.Record.put.Reads as put
 use Rattle.record.proofs.Record.put_found.Reads as put-found
 use Rattle.record.proofs.clear.Reads as clear
@@ -78,6 +81,12 @@ Copy κs src dst dst′ = copy.Post κs (src, (dst, tt)) tt (src, (dst′, tt))
 
 abbrev pub PutPadding : Lfts 1 → ℕ → Slice → Slice → Type 0
 PutPadding κs pads out out′ = put-padding.Post κs (pads, (out, tt)) tt (pads, (out′, tt))
+
+abbrev pub PutHeader : Lfts 1 → Header → Slice → Slice → Type 0
+PutHeader κs h out out′ = put-header.Post κs (h, (out, tt)) tt (h, (out′, tt))
+
+abbrev pub PutHead : Lfts 1 → Record → ℕ → Slice → Slice → Type 0
+PutHead κs r n out out′ = put-head.Post κs (r, (n, (out, tt))) tt (r, (n, (out′, tt)))
 
 abbrev pub RecordPut : Lfts 1 → Record → Slice → Bool → Slice → Type 0
 RecordPut κs self store r store′ = put.Post κs (self, (store, tt)) r (self, (store′, tt))

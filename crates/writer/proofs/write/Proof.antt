@@ -3,11 +3,14 @@ use Prim.Native.Nat.{ℕ, _+_, _-_, _≤_}
 use mathlib.Core.Path.{_≡_, refl, sym, ap, _∙_}
 use mathlib.Core.List.{List}
 use native.Mathlib.Omega.{arith}
-use lib.ListN.{length, drop, length-drop}
+use lib.ListN.{length, take, drop, length-take, length-drop}
 use denote.Ref.{now}
 use borrow.Author.Needs.{needs}
-use borrow.Rule.Slice.PartMut.{same-len-mid}
+use borrow.Rule.Slice.PartMut.{putMid, same-len-mid}
+use Rattle.octets.specs.Octets.{pack}
 use Rattle.octets.proofs.Lists.{rest}
+use Rattle.octets.proofs.Numbers.{length-pack}
+use Rattle.body.specs.Body.{putAll}
 use Rattle.refusal.specs.Answer.{accepted}
 use Rattle.rfc6733.specs.Writer as definition
 use Rattle.record.specs.Store.{output}
@@ -16,6 +19,7 @@ use Rattle.round_trip.specs.Tables.{run}
 use Rattle.round_trip.proofs.Written.{Writable, written-writable}
 use Rattle.writer.specs.Answers.{fieldsAs}
 use Rattle.writer.specs.Emitting.{Done}
+use Rattle.writer.proofs.Parts.{put-front}
 use Rattle.writer.proofs.Message.{message-long, message-put}
 use Rattle.writer.proofs.write.Statement.{statement}
 use Rattle.writer.proofs.write.Tie as tie
@@ -82,21 +86,29 @@ emit-run-requires c κs =
     let f = fit known in
     rw (rest (out b) 20 (omega arith)) (record { valid = writable known .0 .valid; fits = omega arith; short = omega arith })
 
-put-requires : tie.Need-put-requires
-put-requires c κs =
-    let ran = c .before .before .before in
-    let out = out (start (ran .before .before)) in
-    let kept = same-len-mid 20 (length out - 20) out (ran .emit-run .last .1 .1 .1 .0) (ran .emit-run .kept .1 .1 .1 .0) in
-    omega (arith, fit (ran .before .before))
+-- the output with the AVPs is still as long as it was
+abbrev avps-put : tie.After-emit-run → List ℕ
+avps-put c = let out = out (start (c .before .before)) in putMid 20 (length out - 20) out (c .emit-run .last .1 .1 .1 .0)
+
+header-room : (c : tie.After-emit-run) → 20 ≤ length (avps-put c)
+header-room c =
+    let out = out (start (c .before .before)) in
+    let kept = same-len-mid 20 (length out - 20) out (c .emit-run .last .1 .1 .1 .0) (c .emit-run .kept .1 .1 .1 .0) in
+    omega (arith, fit (c .before .before))
 
 returns-2 : tie.Need-returns-2
 unfolding answerOf output fieldsAs
 returns-2 c =
     let put = c .before .before in
-    let ran = put .before .before .before .before in
+    let made = put .before .before in
+    let ran = made .before .before .before in
     let known = ran .before .before in
+    let f = fields (start known) in
     let (w, is) = writable known in
-    (told known, message-put (fields (start known)) _ _ (w .valid) _ _ _ _ _ (omega (arith, fit known)) is (members-put ran) (put .put .ensures))
+    let front = pack (definition.headerFields f (total known)) in
+    let header : _ ≡ putAll front (take 20 (avps-put ran)) = rw (made .header .ensures) at (put .put-header .ensures) in
+    let whole = put-front front (avps-put ran) (length-pack (definition.headerFields f (total known))) (header-room ran) header in
+    (told known, message-put f _ _ (w .valid) _ _ _ _ _ (omega (arith, fit known)) is (members-put ran) whole)
 
 pub write-spec : {M : Type 1} → statement M
 write-spec =
@@ -111,6 +123,9 @@ write-spec =
     (λ c. search needs)
     emit-run-requires
     (λ c. omega (arith, fit (c .before .before .before .before)))
-    put-requires
+    (λ c κs. tt)
+    (λ c. header-room (c .before .before .before))
+    (λ c. simp length-take (omega (arith, header-room (c .before .before .before .before))))
+    (λ c κs. tt)
     (λ c. search needs)
     returns-2)

@@ -3,21 +3,24 @@
 -- its header, and the header before them; its length is theirs and its own size. The measure is what is left of the table, twice, and
 -- one more for a run: it falls from a run to its records and from a group inwards.
 use Prim.Native.Nat.{ℕ, _+_, _-_, _*_, _^_, _≤_, _<_}
-use mathlib.Core.Path.{_≡_, refl}
+use mathlib.Core.Path.{_≡_, refl, sym, _∙_}
 use mathlib.Core.List.{List}
 use native.Mathlib.Omega.{arith}
-use lib.ListN.{length, drop, length-drop}
+use lib.ListN.{length, drop, length-take, length-drop}
 use denote.Ref.{now}
 use borrow.Author.Needs.{needs}
 use borrow.Fn.Kinds.{In}
 use borrow.Fn.PlainCycle.{Measures, is, falls, and}
-use borrow.Rule.Slice.PartMut.{same-len-mid}
+use borrow.Rule.Slice.PartMut.{putMid, same-len-mid}
+use Rattle.octets.specs.Octets.{pack}
 use Rattle.octets.proofs.Lists.{rest}
 use Rattle.record.specs.Record.{recordSize}
+use Rattle.rfc6733.specs.Writer.{headFields}
 use Rattle.round_trip.specs.Tables.{run, one}
-use Rattle.round_trip.proofs.Lengths.{head-low}
+use Rattle.round_trip.proofs.Lengths.{head-length}
 use Rattle.record.proofs.Record.get.Reads as get-reads
 use Rattle.writer.specs.Emitting.{Done}
+use Rattle.writer.proofs.Parts.{put-front}
 use Rattle.writer.proofs.Runs.{Going, none-put, one-put, all-put, group-long, group-done, leaf-room, leaf-done}
 use Rattle.writer.proofs.Steps.{AtFront, at-front, members, from, bytes-size, ends, ends-above, Step, step}
 use Rattle.writer.proofs.emit.emit_avp.Reads as emit-avp
@@ -28,7 +31,7 @@ use Rattle.writer.proofs.emit.emit_run.Kinds as emit-run-kinds
 use Rattle.writer.proofs.emit.+emit_avp+emit_run.Lts-emit_run as emit-run-lts
 use Rattle.writer.proofs.emit.emit_leaf.Reads as emit-leaf-reads
 use Rattle.rules.proofs.header_size.Reads as header-size-reads
-use Rattle.writer.proofs.emit.put_head.Reads as put-head-reads
+use Rattle.heads.proofs.put_head.Reads as put-head-reads
 use Rattle.writer.proofs.emit.+emit_avp+emit_run.{statement}
 use Rattle.writer.proofs.emit.+emit_avp+emit_run.Tie.{close}
 
@@ -137,20 +140,28 @@ module _ (t : ℕ) where
         },
       )
 
-  emit-avp-put-head-requires : emit-avp-lts.Need-put-head-requires (emit-avp-calls t) (emit-avp-at t) emit-avp.Post
-  emit-avp-put-head-requires c κs =
-      let m = c .before .before .before .before in
-      let e = group m in
+  -- the output with the members is still as long as it was
+  abbrev membered : Members → List ℕ
+  membered c = let out = output (entry (group c)) in putMid (header (group c)) (length out - header (group c)) out (c .emit-run .last .1 .1 .1 .0)
+
+  membered-length : (c : Members) → length (membered c) ≡ length (output (entry (group c)))
+  membered-length c =
+      let e = group c in
       let out = output (entry e) in
-      let kept = same-len-mid (header e) (length out - header e) out (m .emit-run .last .1 .1 .1 .0) (m .emit-run .kept .1 .1 .1 .0) in
-      omega (arith, header-fits e, e .header-size .ensures, head-low (entry e .args .r))
+      same-len-mid (header e) (length out - header e) out (c .emit-run .last .1 .1 .1 .0) (c .emit-run .kept .1 .1 .1 .0)
+
+  header-room : (c : Members) → header (group c) ≤ length (membered c)
+  header-room c = omega (arith, header-fits (group c), membered-length c)
 
   emit-avp-returns : emit-avp-lts.Need-returns (emit-avp-calls t) (emit-avp-at t) emit-avp.Post
   emit-avp-returns c =
       let m = c .before .before .before .before .before .before .before .before in
       let e = group m in
+      let r = entry e .args .r in
+      let n = header e + m .emit-run .result .size in
+      let long : length (pack (headFields r n)) ≡ header e = head-length r n ∙ sym (e .header-size .ensures) in
       group-done _ (front (entry e)) (e .before .if1 .taken) (e .header-size .ensures) (header-fits e) refl (members-put m)
-      (c .before .before .before .put-head .ensures)
+      (put-front (pack (headFields r n)) (membered m) long (header-room m) (c .before .before .before .put-head .ensures))
 
   emit-avp-returns-2 : emit-avp-lts.Need-returns-2 (emit-avp-calls t) (emit-avp-at t) emit-avp.Post
   emit-avp-returns-2 c =
@@ -271,7 +282,9 @@ pub +emit-avp+emit-run-spec : {M : Type 1} → statement M
     (emit-avp-emit-run-requires t)
     (λ c. omega (arith, length-fits t (c .before .before .before)))
     (λ c. omega (arith, length-fits t (c .before .before .before)))
-    (emit-avp-put-head-requires t)
+    (λ c. header-room t (c .before .before .before))
+    (λ c. simp length-take (omega (arith, header-room t (c .before .before .before .before))))
+    (λ c κs. tt)
     (λ c. omega (arith, count-fits t (c .before .before .before .before .before .before .before .before)))
     (λ c. search needs)
     (emit-avp-returns t)

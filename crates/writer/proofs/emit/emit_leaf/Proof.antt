@@ -1,16 +1,18 @@
 -- `emit_leaf` meets its contract: header, data and padding are put one after the other.
 use Prim.Native.Nat.{ℕ, _+_, _-_, _≤_}
-use mathlib.Core.Path.{_≡_, refl, _∙_}
-use mathlib.Core.List.{List}
+use mathlib.Core.Path.{_≡_, refl, sym, _∙_}
+use mathlib.Core.List.{List, _++_}
 use native.Mathlib.Omega.{arith}
-use lib.ListN.{length}
+use lib.ListN.{length, drop, length-take}
 use denote.Ref.{now}
 use borrow.Rule.Slice.PartMut.{putMid, same-len-mid}
 use borrow.Author.Needs.{needs}
-use Rattle.rfc6733.specs.Writer.{headOf}
-use Rattle.round_trip.proofs.Lengths.{head-low}
+use Rattle.octets.specs.Octets.{pack, over}
+use Rattle.octets.proofs.Lists.{over-length}
+use Rattle.rfc6733.specs.Writer.{headOf, headFields}
+use Rattle.round_trip.proofs.Lengths.{head-low, head-length}
 use Rattle.record.specs.declared.Record.{Record}
-use Rattle.writer.proofs.Parts.{leaf-sizes, leaf-put}
+use Rattle.writer.proofs.Parts.{leaf-sizes, put-front, leaf-put}
 use Rattle.writer.proofs.emit.emit_leaf.Statement.{statement}
 use Rattle.writer.proofs.emit.emit_leaf.Tie as tie
 
@@ -44,22 +46,40 @@ sizes c =
     let r = (b .args .r) in
     omega (arith, c .header-size .ensures, head-low r, b .pre, leaf-sizes (now (b .args .pool)) r (b .pre .leaf))
 
--- the output with the data is still as long as it was
+-- the output with the header, and with the data, is still as long as it was
+abbrev headed : tie.After-put-head → List ℕ
+headed c = c .put-head .last .1 .1 .0 ++ drop (sized c .header-size .result) (now (start (sized c) .args .out))
+
+head-put : (c : tie.After-put-head)
+    → let b = start (sized c) in
+    headed c ≡ over (pack (headFields (b .args .r) (b .args .r .length))) (now (b .args .out))
+head-put c =
+    let b = start (sized c) in
+    let r = b .args .r in
+    let long : length (pack (headFields r (r .length))) ≡ sized c .header-size .result =
+    head-length r (r .length) ∙ sym (sized c .header-size .ensures)
+    in
+    put-front (pack (headFields r (r .length))) (now (b .args .out)) long (omega (arith, sizes (sized c))) (c .put-head .ensures)
+
+headed-length : (c : tie.After-put-head) → length (headed c) ≡ length (now (start (sized c) .args .out))
+headed-length c =
+    let r = start (sized c) .args .r in
+    rw (head-put c) (over-length _ _ (omega (arith, head-length r (r .length), sizes (sized c))))
+
 abbrev output : tie.After-copy → List ℕ
 output c =
     let h = sized (put c) .header-size .result in
-    let l = put c .put-head .last .1 .1 .0 in
-    putMid h (start (sized (put c)) .args .r .length - h) l (c .copy .last .1 .0)
+    putMid h (start (sized (put c)) .args .r .length - h) (headed (put c)) (c .copy .last .1 .0)
 
 copied-length : (c : tie.After-copy) → length (output c) ≡ length (now (start (sized (put c)) .args .out))
-copied-length c = search (same-len-mid, c .copy .kept .1 .0, put c .put-head .kept .1 .1 .0, _∙_)
+copied-length c = search (same-len-mid, c .copy .kept .1 .0, headed-length (put c), _∙_)
 
 returns : tie.Need-returns
 returns c =
     let d = copied c in
     let p = put d in
-    leaf-put (start (sized p) .args .r) _ _ (start (sized p) .pre) (sized p .header-size .ensures) (p .put-head .ensures)
-    (p .put-head .kept .1 .1 .0) refl (d .copy .ensures) (copied-length d) (c .before .before .put-padding .ensures)
+    leaf-put (start (sized p) .args .r) _ _ (start (sized p) .pre) (sized p .header-size .ensures) (head-put p) (headed-length p) refl
+    (d .copy .ensures) (copied-length d) (c .before .before .put-padding .ensures)
 
 pub emit-leaf-spec : {M : Type 1} → statement M
 emit-leaf-spec =
@@ -72,13 +92,15 @@ emit-leaf-spec =
     (λ c. search needs)
     (λ c. omega (arith, sizes (c .before .before .before)))
     (λ c. omega (arith, sizes (c .before .before .before)))
-    (λ c κs. omega (arith, sizes (c .before .before .before .before)))
+    (λ c. omega (arith, sizes (c .before .before .before)))
+    (λ c. simp length-take (omega (arith, sizes (c .before .before .before .before))))
+    (λ c κs. tt)
     (λ c. omega arith)
     (λ c. omega (arith, sizes (sized (c .before .before))))
     (λ c. omega (arith, sizes (sized (c .before .before))))
     (λ c. omega (arith, sizes (sized (c .before .before .before))))
-    (λ c. let p = c .before .before .before in omega (arith, sizes (sized p), p .put-head .kept))
-    (λ c. let p = c .before .before .before in omega (arith, sizes (sized p), p .put-head .kept))
+    (λ c. let p = c .before .before .before in omega (arith, sizes (sized p), headed-length p))
+    (λ c. let p = c .before .before .before in omega (arith, sizes (sized p), headed-length p))
     (λ c κs. tt)
     (λ c. omega arith)
     (λ c. let d = c .before .before in omega (arith, sizes (sized (put d)), copied-length d))

@@ -4,8 +4,8 @@ use native.Mathlib.Omega.{arith}
 use denote.Ref.{now}
 use borrow.Author.Needs.{needs}
 use Rattle.word.proofs.LastFirst.{number-put-at}
-use Rattle.writer.proofs.emit.put_u32.Statement.{statement}
-use Rattle.writer.proofs.emit.put_u32.Tie as tie
+use Rattle.heads.proofs.put_u32.Statement.{statement}
+use Rattle.heads.proofs.put_u32.Tie as tie
 
 returns : tie.Need-returns
 returns c =

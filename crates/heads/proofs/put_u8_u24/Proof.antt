@@ -6,8 +6,8 @@ use lib.Seq.{sets}
 use denote.Ref.{now}
 use borrow.Author.Needs.{needs}
 use Rattle.octets.proofs.Numbers.{written-joined}
-use Rattle.writer.proofs.emit.put_u8_u24.Statement.{statement}
-use Rattle.writer.proofs.emit.put_u8_u24.Tie as tie
+use Rattle.heads.proofs.put_u8_u24.Statement.{statement}
+use Rattle.heads.proofs.put_u8_u24.Tie as tie
 
 returns : tie.Need-returns
 returns c =
