@@ -1,4 +1,5 @@
 -- `write` meets its contract: the answer is asked for before a byte is put, and where it is a size, the message has that size and fits.
+-- Its AVPs are put into the part behind the header, and then the header into the part before them.
 use Prim.Native.Nat.{ℕ, _+_, _-_, _≤_}
 use mathlib.Core.Path.{_≡_, refl, sym, ap, _∙_}
 use mathlib.Core.List.{List}

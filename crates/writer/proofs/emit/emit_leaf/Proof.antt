@@ -1,4 +1,5 @@
--- `emit_leaf` meets its contract: header, data and padding are put one after the other.
+-- `emit_leaf` meets its contract: header, data and padding are put one after the other, each into a part of the output that is as long as
+-- it is, and no part that comes back has another length.
 use Prim.Native.Nat.{ℕ, _+_, _-_, _≤_}
 use mathlib.Core.Path.{_≡_, refl, sym, _∙_}
 use mathlib.Core.List.{List, _++_}
@@ -10,7 +11,7 @@ use borrow.Author.Needs.{needs}
 use Rattle.octets.specs.Octets.{pack, over}
 use Rattle.octets.proofs.Lists.{over-length}
 use Rattle.rfc6733.specs.Writer.{headOf, headFields}
-use Rattle.round_trip.proofs.Lengths.{head-low, head-length}
+use Rattle.round_trip.proofs.Lengths.{head-length}
 use Rattle.record.specs.declared.Record.{Record}
 use Rattle.writer.proofs.Parts.{leaf-sizes, put-front, leaf-put}
 use Rattle.writer.proofs.emit.emit_leaf.Statement.{statement}
@@ -31,11 +32,9 @@ copied c = c .before .before .before .before .before .before
 
 -- the numbers by which it lends parts, with the header's size h
 record Numbers (r : Record) (pool : List ℕ) (room h : ℕ) : Type 0 where
-  pub low : 8 ≤ h
   pub head-is : h ≡ headOf r
   pub long : h ≤ r .length
   pub within : r .place + (r .length - h) ≤ length pool
-  pub few : r .padding ≤ 3
   pub fits : r .length + r .padding ≤ room
 
 sizes : (c : tie.After-header-size)
@@ -43,8 +42,8 @@ sizes : (c : tie.After-header-size)
     Numbers (b .args .r) (now (b .args .pool)) (length (now (b .args .out))) (c .header-size .result)
 sizes c =
     let b = start c in
-    let r = (b .args .r) in
-    omega (arith, c .header-size .ensures, head-low r, b .pre, leaf-sizes (now (b .args .pool)) r (b .pre .leaf))
+    let r = b .args .r in
+    omega (arith, c .header-size .ensures, b .pre, leaf-sizes (now (b .args .pool)) r (b .pre .leaf))
 
 -- the output with the header, and with the data, is still as long as it was
 abbrev headed : tie.After-put-head → List ℕ
