@@ -74,7 +74,9 @@ module _ (r : Record) (pool l : List ℕ) (w : LeafRoom r pool (length l)) where
       let data-put : k ≡ over body (take (r .length - h) (drop h p)) =
       ek ∙ rw (src-is, all-put body (take (r .length - h) (drop h p)) (omega (arith, s .data-is)))
       in
-      let front : q ≡ over (head ++ body) l = put-behind head body l {k = r .length - h} ep head-is (omega (arith, s .data-is)) (omega arith) data-put in
+      let front : q ≡ over (head ++ body) l =
+      put-behind head body l {k = r .length - h} ep head-is (omega (arith, s .data-is)) (omega arith) data-put
+      in
       let behind = length-take-le (r .length + r .padding - r .length) (drop (r .length) q) (omega (arith, length-drop (r .length) q)) in
       let few : length (padBytes r) ≡ r .padding =
       length-take-le (r .padding) (octets 3 (r .pads)) (omega (arith, s .padding-few, length-octets 3 (r .pads)))
@@ -83,7 +85,7 @@ module _ (r : Record) (pool l : List ℕ) (w : LeafRoom r pool (length l)) where
       record {
         size-is = sym (s .avp-is);
         out-is =
-            put-behind (head ++ body) (padBytes r) l {n = r .length} {k = r .length + r .padding - r .length} front (omega (arith, length-append head body, s .data-is)) (omega arith) (omega arith)
-            (em ∙ rw count)
+            put-behind (head ++ body) (padBytes r) l {n = r .length} {k = r .length + r .padding - r .length} front
+            (omega (arith, length-append head body, s .data-is)) (omega arith) (omega arith) (em ∙ rw count)
             ∙ rw (s .data-is, append-assoc head body (padBytes r));
       }
