@@ -5,11 +5,12 @@ use mathlib.Core.Path.{_≡_, refl, sym, ap, _∙_}
 use mathlib.Core.List.{List, [], _∷_}
 use lib.ListN.{getD}
 use Rattle.record.specs.Value as values
+use Rattle.address.specs.declared.IpAddr.{IpAddr}
+use Rattle.address.specs.Addresses.{addressOf}
 use Rattle.value.specs.declared.Value.{Value}
 use Rattle.value.specs.declared.Value.the-variants.{Unhandled, OctetString, Integer32, Integer64, Unsigned32, Unsigned64, Float32, Float64, Grouped, Enumerated, UTF8String, DiameterIdentity, DiameterURI, Address, Time}
-use Rattle.value.specs.declared.IpAddr.{IpAddr}
 use Rattle.value.specs.declared.Read.{Read}
-use Rattle.value.specs.Values.{kindOf, numberOf, readAs, addressOf, Shows}
+use Rattle.value.specs.Values.{kindOf, numberOf, readAs, Shows}
 
 -- the value of a kind and a number, or of an address
 abbrev value-back : ℕ → ℕ → IpAddr → Value

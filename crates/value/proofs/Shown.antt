@@ -1,14 +1,18 @@
 -- What a value of the code shows. A number is read by one law over its width. A value that shows another kind than Address is none, so
 -- nothing more is asked of it; an Address is asked for its family besides.
 use Prim.Native.Nat.{ℕ, _<_, _≤_}
-use mathlib.Core.Path.{_≡_, refl, ap, _∙_}
+use mathlib.Core.Path.{_≡_, refl, sym, ap, _∙_}
 use mathlib.Core.Bool.{Bool, true, false, cond}
 use mathlib.Core.List.{List}
+use native.Mathlib.Omega.{arith}
 use lib.ListN.{length}
 use lib.Dec.{ltb, eqb}
 use borrow.Author.Tests.{lt-ltb, le-ltb, eqb-false}
-use Rattle.octets.specs.Octets.{be, Reads}
-use Rattle.octets.proofs.Numbers.{bytes, read-at}
+use Rattle.octets.specs.Octets.{be}
+use Rattle.address.specs.declared.IpAddr.{IpAddr}
+use Rattle.address.specs.declared.Found.{Found}
+use Rattle.address.specs.declared.Found.the-variants as found
+use Rattle.address.specs.Addresses.{foundAs, Finds}
 use Rattle.utf8.specs.Checked.{checked}
 use Rattle.utf8.specs.declared.Utf8.{Utf8}
 use Rattle.utf8.specs.declared.Utf8.the-variants.{WellFormed, ValidUpTo}
@@ -22,10 +26,8 @@ use Rattle.record.specs.Kinds.{address, grouped, unhandled}
 use Rattle.attribute.specs.ByTable.{known}
 use Rattle.value.specs.declared.Value.{Value}
 use Rattle.value.specs.declared.Value.the-variants.{Unhandled, Grouped, Address}
-use Rattle.value.specs.declared.IpAddr.{IpAddr}
-use Rattle.value.specs.declared.IpAddr.the-variants.{V4, V6}
 use Rattle.value.specs.declared.Read.{Read}
-use Rattle.value.specs.Values.{kindOf, addressNumber, numberOf, readAs, addressOf, textOf, textErrors, Shows, valueIf}
+use Rattle.value.specs.Values.{kindOf, numberOf, readAs, textOf, textErrors, addressOrNone, addressErrors, Shows, valueIf}
 
 -- r was made of a value and its error flags
 abbrev pub Made : Value → ℕ → Read → Type 0
@@ -35,16 +37,20 @@ pub read-as : (r : Read) (v : Value) (e : ℕ) → Made v e r → readAs r ≡ v
 unfolding readAs
 read-as r v e made = rw (made .0, made .1)
 
+-- data that are Unhandled are no Address
+unhandled-address : {n : ℕ} {a : IpAddr} → Unhandled n ≡ Address a → ⊥
+unhandled-address e = let z : unhandled ≡ address = ap kindOf e in omega arith
+
 -- ---- too few data for a number, and enough
 
 pub too-few : (w k : ℕ) (s : List ℕ) (r : Read) → length s < w → Made (Unhandled 0) dataLength r → readAs r ≡ fixed w k s
 unfolding fixed
 too-few w k s r few made = rw (lt-ltb _ _ few) (read-as r (Unhandled 0) dataLength made)
 
-pub enough : (w : ℕ) (s : List ℕ) (v : Value) (k n e : ℕ) → w ≤ length s → (kindOf v ≡ k) × (numberOf v ≡ n) → Reads w (bytes w s 0) n
+pub enough : (w : ℕ) (s : List ℕ) (v : Value) (k n e : ℕ) → w ≤ length s → (kindOf v ≡ k) × (numberOf v ≡ n) → n ≡ be w s 0
     → e ≡ flag (ltb w (length s)) dataLength → readAs (record { value = v; errors = e }) ≡ fixed w k s
 unfolding fixed readAs
-enough w s v k n e some is read raised = rw (le-ltb _ _ some, is .0, is .1, read-at w s 0 n read, raised)
+enough w s v k n e some is read raised = rw (le-ltb _ _ some, is .0, is .1, read, raised)
 
 fixed-kind : (w k : ℕ) (s : List ℕ) → eqb k address ≡ false → eqb (fixed w k s .kind) address ≡ false
 unfolding fixed
@@ -84,15 +90,19 @@ module _ (s : List ℕ) (r : Read) where
       by WellFormed t made = rw t (no-address (value (kindOf v) 0 0) (read-as r v 0 made ∙ ap (value (kindOf v) 0) none) other)
       by (ValidUpTo n) t made = rw (t .ill-formed, t .up-to) (no-address (value unhandled dataValue n) (read-as r (Unhandled n) dataValue made) refl)
 
-  an-address : (a : IpAddr) → Made (Address a) 0 r → a ≡ addressOf s (addressNumber a) → Shows (value address 0 (addressNumber a)) s r
-  an-address a made told =
-      record { value = read-as r (Address a) 0 made; address = λ b is. let same : b ≡ a = cc (made .0) in same ∙ told }
+  -- an Address is the one that was found
+  pub an-address : (v : values.Value) (f : Found) → Finds v s f → Made (addressOrNone f) (addressErrors f) r → Shows v s r
+  an-address v f finds made = record { value = shown f made ∙ finds .value; address = λ a is. finds .address a (same f a (sym (made .0) ∙ is)) }
+    where
+      shown : (f : Found) → Made (addressOrNone f) (addressErrors f) r → readAs r ≡ foundAs f
+      shown (found.Address a) made = read-as r (Address a) 0 made
+      shown found.BadLength made = read-as r (Unhandled 0) dataLength made
+      shown found.OtherFamily made = read-as r (Unhandled 0) 0 made
 
-  pub ipv4 : (n : ℕ) → length s < 16 → Made (Address (V4 n)) 0 r → Shows (value address 0 n) s r
-  ipv4 n few made = an-address (V4 n) made (rw (lt-ltb _ _ few))
-
-  pub ipv6 : 16 ≤ length s → Made (Address V6) 0 r → Shows (value address 0 0) s r
-  ipv6 room made = an-address V6 made (rw (le-ltb _ _ room))
+      same : (f : Found) (a : IpAddr) → addressOrNone f ≡ Address a → f ≡ found.Address a
+      same (found.Address b) a e = cc
+      same found.BadLength a e = absurd (unhandled-address e)
+      same found.OtherFamily a e = absurd (unhandled-address e)
 
   -- a number by the arm of its kind n, in the words of `Value::new_known`
   module _ (tiles : Bool) (asAddress : List ℕ → values.Value) (k : ℕ) {n : ℕ} (arm : k ≡ n) where

@@ -3,19 +3,20 @@ use Prim.Native.Nat.{ℕ}
 use mathlib.Core.Path.{_≡_}
 use mathlib.Core.Bool.{Bool, cond}
 use mathlib.Core.List.{List}
-use lib.ListN.{length}
-use lib.Dec.{ltb, eqb}
+use lib.Dec.{eqb}
+use Rattle.address.specs.declared.IpAddr.{IpAddr}
+use Rattle.address.specs.declared.Found.{Found}
+use Rattle.address.specs.declared.Found.the-variants as found
+use Rattle.address.specs.Addresses.{addressNumber, addressOf}
 use Rattle.utf8.specs.declared.Utf8.{Utf8}
 use Rattle.utf8.specs.declared.Utf8.the-variants.{WellFormed, ValidUpTo}
-use Rattle.flags.specs.Flags.{dataValue}
+use Rattle.flags.specs.Flags.{dataValue, dataLength}
 use Rattle.record.specs.Kinds as kinds
 use Rattle.record.specs.Value as values
 use Rattle.rfc6733.specs.Value.{dataAs}
 use Rattle.rfc6733.specs.Records.{tiling}
 use Rattle.value.specs.declared.Value.{Value}
 use Rattle.value.specs.declared.Value.the-variants.{Unhandled, OctetString, Integer32, Integer64, Unsigned32, Unsigned64, Float32, Float64, Grouped, Enumerated, UTF8String, DiameterIdentity, DiameterURI, Address, Time}
-use Rattle.value.specs.declared.IpAddr.{IpAddr}
-use Rattle.value.specs.declared.IpAddr.the-variants.{V4, V6}
 use Rattle.value.specs.declared.Read.{Read}
 
 -- the kind of a value
@@ -35,11 +36,6 @@ kindOf DiameterIdentity = kinds.diameterIdentity
 kindOf DiameterURI = kinds.diameterURI
 kindOf (Address a) = kinds.address
 kindOf (Time n) = kinds.time
-
--- an IPv4 address is a number; an IPv6 address stays in the input
-abbrev pub addressNumber : IpAddr → ℕ
-addressNumber (V4 n) = n
-addressNumber V6 = 0
 
 -- the number in a record's value field
 abbrev pub numberOf : Value → ℕ
@@ -68,13 +64,20 @@ abbrev pub textErrors : Utf8 → ℕ
 textErrors WellFormed = 0
 textErrors (ValidUpTo n) = dataValue
 
+-- data that should be an Address, as the crate address has it: an Address or none
+abbrev pub addressOrNone : Found → Value
+addressOrNone (found.Address a) = Address a
+addressOrNone found.BadLength = Unhandled 0
+addressOrNone found.OtherFamily = Unhandled 0
+
+abbrev pub addressErrors : Found → ℕ
+addressErrors (found.Address a) = 0
+addressErrors found.BadLength = dataLength
+addressErrors found.OtherFamily = 0
+
 -- what a value of the code shows
 unfoldable pub readAs : Read → values.Value
 readAs r = values.value (kindOf (r .value)) (r .errors) (numberOf (r .value))
-
--- an IPv6 address takes 16 bytes. Fewer hold an IPv4 address, whose number is n
-abbrev pub addressOf : List ℕ → ℕ → IpAddr
-addressOf s n = cond (ltb (length s) 16) (V4 n) V6
 
 -- r is the value v of the data s. Kind and number do not tell 0.0.0.0 from an IPv6 address, so that of an Address it is said which
 -- address it is

@@ -1,5 +1,7 @@
 // What an AVP's data are: a typed value with its error flags.
 // This crate knows the data of one AVP, and nothing of records or of nesting.
+use address::Found;
+use address::IpAddr;
 use flags::ErrorFlags;
 use record::kinds::ADDRESS;
 use record::kinds::DIAMETER_IDENTITY;
@@ -19,12 +21,11 @@ use record::kinds::UTF8_STRING;
 use utf8::Utf8;
 ghost use mathlib.Core.Path.{_≡_};
 ghost use mathlib.Core.Bool.{true, cond, _||_};
-ghost use Rattle.rfc6733.specs.Dictionary.{bareAddress, familyAddress};
 ghost use Rattle.rfc6733.specs.Value.{kinds32, kinds64, oneOf, fixed};
 ghost use Rattle.rfc6733.specs.Records.{tiling};
 ghost use Rattle.flags.specs.Flags.{dataValue};
 ghost use Rattle.attribute.specs.ByTable.{known, addressBy};
-ghost use Rattle.value.specs.Values.{kindOf, addressNumber, numberOf, textOf, textErrors, readAs, Shows, valueIf, newValue};
+ghost use Rattle.value.specs.Values.{kindOf, numberOf, textOf, textErrors, addressOrNone, addressErrors, readAs, Shows, valueIf, newValue};
 
 /// AVP Data Format as specified in RFC 6733, section 4.2. Data that are no number stay in the input;
 /// a number is held as its bits, whatever its sign or form.
@@ -47,39 +48,10 @@ pub enum Value {
     Time(u32),
 }
 
-/// An IPv4 address as a number. An IPv6 address stays in the input.
-pub enum IpAddr {
-    V4(u32),
-    V6,
-}
-
 /// A value with the error flags that reading it raised.
 pub struct Read {
     pub value: Value,
     pub errors: u8,
-}
-
-impl IpAddr {
-    const V4_SIZE: usize = 4;
-
-    const V6_SIZE: usize = 16;
-
-    // Address families (IANA, "Address Family Numbers"), which stand before the address where it has one.
-    const FAMILY_SIZE: usize = 2;
-
-    const V4_FAMILY: u32 = 1;
-
-    const V6_FAMILY: u32 = 2;
-
-    // The number in a record's value field.
-    fn number(self) -> u64
-        ensures { λ r. ⌜ r ≡ addressNumber self ⌝ }
-    {
-        match self {
-            IpAddr::V4(bits) => bits as u64,
-            IpAddr::V6 => 0,
-        }
-    }
 }
 
 impl Read {
@@ -137,7 +109,7 @@ impl Read {
         if size < Value::SIZE_32 {
             return Read::unhandled(ErrorFlags::DataLength as u8);
         }
-        let bits = octets::be_u32(data[0], data[1], data[2], data[3]);
+        let bits = word::be_u32(data);
         Read {
             value: Value::of_32(kind, bits),
             errors: flags::raised(Value::SIZE_32 < size, ErrorFlags::DataLength as u8),
@@ -169,44 +141,15 @@ impl Read {
         }
     }
 
-    // An Address that is the address alone.
-    fn bare_address(data: &[u8]) -> Read
-        ensures { λ r. ⌜ Shows (bareAddress (now («data» .entry))) (now («data» .entry)) r ⌝ }
+    // What an Address's data are.
+    fn address(found: Found) -> Read
+        ensures { λ r. ⌜ (r .value ≡ addressOrNone found) × (r .errors ≡ addressErrors found) ⌝ }
     {
-        let size = data.len();
-        if size == IpAddr::V4_SIZE {
-            let bits = octets::be_u32(data[0], data[1], data[2], data[3]);
-            return Read::good(Value::Address(IpAddr::V4(bits)));
+        match found {
+            Found::Address(address) => Read::good(Value::Address(address)),
+            Found::BadLength => Read::unhandled(ErrorFlags::DataLength as u8),
+            Found::OtherFamily => Read::unhandled(0),
         }
-        if size == IpAddr::V6_SIZE {
-            return Read::good(Value::Address(IpAddr::V6));
-        }
-        Read::unhandled(ErrorFlags::DataLength as u8)
-    }
-
-    // An Address that is a family, then the address (RFC 6733, section 4.3.1).
-    fn family_address(data: &[u8]) -> Read
-        ensures { λ r. ⌜ Shows (familyAddress (now («data» .entry))) (now («data» .entry)) r ⌝ }
-    {
-        let size = data.len();
-        if size < IpAddr::FAMILY_SIZE {
-            return Read::unhandled(ErrorFlags::DataLength as u8);
-        }
-        let family = octets::be_u16(data[0], data[1]);
-        if family == IpAddr::V4_FAMILY {
-            if size != IpAddr::FAMILY_SIZE + IpAddr::V4_SIZE {
-                return Read::unhandled(ErrorFlags::DataLength as u8);
-            }
-            let bits = octets::be_u32(data[2], data[3], data[4], data[5]);
-            return Read::good(Value::Address(IpAddr::V4(bits)));
-        }
-        if family != IpAddr::V6_FAMILY {
-            return Read::unhandled(0);
-        }
-        if size != IpAddr::FAMILY_SIZE + IpAddr::V6_SIZE {
-            return Read::unhandled(ErrorFlags::DataLength as u8);
-        }
-        Read::good(Value::Address(IpAddr::V6))
     }
 }
 
@@ -269,11 +212,11 @@ impl Value {
             DIAMETER_IDENTITY => Read::text(utf8::check(data), Value::DiameterIdentity),
             DIAMETER_URI => Read::text(utf8::check(data), Value::DiameterURI),
             ADDRESS => {
-                if families {
-                    Read::family_address(data)
+                Read::address(if families {
+                    address::after_family(data)
                 } else {
-                    Read::bare_address(data)
-                }
+                    address::bare(data)
+                })
             }
             TIME => Read::fixed_32(TIME, data),
             _ => Read::unhandled(0),

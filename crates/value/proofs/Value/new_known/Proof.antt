@@ -7,10 +7,11 @@ use denote.Ref.{now}
 use Rattle.rfc6733.specs.Value.{dataAs}
 use Rattle.rfc6733.specs.Records.{tiling}
 use Rattle.attribute.specs.ByTable.{addressBy}
+use Rattle.address.specs.Addresses.{Finds}
 use Rattle.value.specs.declared.Value.the-variants.{OctetString, UTF8String, DiameterIdentity, DiameterURI}
 use Rattle.value.specs.Values.{valueIf}
 use Rattle.value.proofs.KnownKinds.{none-known}
-use Rattle.value.proofs.Shown.{read-as, no-address, is-unhandled, a-group, a-text, number-32, number-64}
+use Rattle.value.proofs.Shown.{read-as, no-address, is-unhandled, a-group, a-text, an-address, number-32, number-64}
 use Rattle.value.proofs.Value.new_known.Statement.{statement}
 use Rattle.value.proofs.Value.new_known.Tie as tie
 
@@ -38,17 +39,19 @@ returns-12 : tie.Need-returns-12
 unfolding valueIf dataAs
 returns-12 c = rw (c .before .before .match .keys12) (a-text _ _ DiameterURI refl refl _ (c .before .check3 .ensures) (c .text3 .ensures))
 
+-- what was found is what the dictionary has
+found-by : (c : tie.Joined2) → let a = c .before .before .before .args in
+    Finds (addressBy (a .families) (now (a .«data»))) (now (a .«data»)) (c .if2 .address)
+unfolding addressBy
+found-by c = ⊎-elim (λ w. rw (w .2, w .0 .taken) (w .1 .ensures)) (λ w. rw (w .2, w .0 .left) (w .1 .ensures)) (c .if2 .came)
+
 returns-13 : tie.Need-returns-13
-unfolding valueIf dataAs addressBy
-returns-13 c = rw (c .before .before .match .keys13, c .before .if2 .taken) (c .family-address .ensures)
-
-returns-14 : tie.Need-returns-14
-unfolding valueIf dataAs addressBy
-returns-14 c = rw (c .before .before .match .keys13, c .before .if2 .left) (c .bare-address .ensures)
-
-returns-16 : tie.Need-returns-16
 unfolding valueIf dataAs
-returns-16 c = rw (none-known (c .before .match .rest)) (is-unhandled _ _ 0 (c .unhandled .ensures))
+returns-13 c = rw (c .before .before .match .keys13) (an-address _ _ _ _ (found-by (c .before)) (c .address .ensures))
+
+returns-15 : tie.Need-returns-15
+unfolding valueIf dataAs
+returns-15 c = rw (none-known (c .before .match .rest)) (is-unhandled _ _ 0 (c .unhandled .ensures))
 
 pub new-known-spec : {M : Type 1} → statement M
 new-known-spec =
@@ -72,6 +75,7 @@ new-known-spec =
     (λ c κs. tt)
     (λ c κs. tt)
     (λ c κs. tt)
+    (λ c κs. tt)
     (λ c κs. refl)
     (λ c κs. tt)
     returns
@@ -87,6 +91,5 @@ new-known-spec =
     returns-11
     returns-12
     returns-13
-    returns-14
     (λ c. number-32 _ _ _ _ _ (c .before .match .keys14) refl (c .fixed-325 .ensures))
-    returns-16)
+    returns-15)
