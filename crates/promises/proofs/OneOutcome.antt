@@ -81,6 +81,9 @@ use Rattle.reader.proofs.next.Reads as next
 use Rattle.reader.proofs.find.Reads as find
 use Rattle.record.proofs.Record.get.Reads as record-get
 use Rattle.record.proofs.Record.read.Reads as record-read
+use Rattle.address.proofs.IpAddr.number.Reads as address-number
+use Rattle.address.proofs.bare.Reads as address-bare
+use Rattle.address.proofs.after_family.Reads as address-after-family
 use Rattle.value.proofs.Value.new.Reads as value-new
 use Rattle.value.proofs.Value.new_known.Reads as value-new-known
 use Rattle.value.proofs.Value.kind.Reads as value-kind
@@ -114,6 +117,7 @@ use Rattle.header.proofs.AnswerOf as header-answers
 use Rattle.front.proofs.AnswerOf as front-answers
 use Rattle.steps.proofs.AnswerOf as steps-answers
 use Rattle.unit_value.proofs.AnswerOf as unit-value-answers
+use Rattle.address.proofs.OneAnswer.{one-answer}
 use Rattle.value.proofs.ReadAs.{one-value}
 use Rattle.count.proofs.AnswerOf as count-answers
 use Rattle.avps.proofs.AnswerOf as avps-answers
@@ -388,6 +392,17 @@ record-get-one κs a r r′ s p q = p ∙ sym q
 
 record-read-one : Single record-read.Post
 record-read-one κs a r r′ s p q = p ∙ sym q
+
+-- ---- address
+
+address-number-one : Single address-number.Post
+address-number-one κs a r r′ s p q = p ∙ sym q
+
+address-bare-one : Single address-bare.Post
+address-bare-one κs a r r′ s p q = one-answer _ _ r r′ p q
+
+address-after-family-one : Single address-after-family.Post
+address-after-family-one κs a r r′ s p q = one-answer _ _ r r′ p q
 
 -- ---- value
 

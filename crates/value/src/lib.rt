@@ -251,21 +251,15 @@ impl Value {
         ensures { λ r. ⌜ r ≡ numberOf self ⌝ }
     {
         match self {
-            Value::Unhandled(n) => n,
-            Value::OctetString => 0,
-            Value::Integer32(n) => n as u64,
-            Value::Integer64(n) => n,
-            Value::Unsigned32(n) => n as u64,
-            Value::Unsigned64(n) => n,
-            Value::Float32(n) => n as u64,
-            Value::Float64(n) => n,
-            Value::Grouped => 0,
-            Value::Enumerated(n) => n as u64,
-            Value::UTF8String => 0,
-            Value::DiameterIdentity => 0,
-            Value::DiameterURI => 0,
+            Value::Unhandled(n) | Value::Integer64(n) | Value::Unsigned64(n) | Value::Float64(n) =>
+                n,
+            Value::Integer32(n)
+            | Value::Unsigned32(n)
+            | Value::Float32(n)
+            | Value::Enumerated(n)
+            | Value::Time(n) => n as u64,
             Value::Address(address) => address.number(),
-            Value::Time(n) => n as u64,
+            _ => 0,
         }
     }
 }
