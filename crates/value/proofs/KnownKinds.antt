@@ -1,16 +1,21 @@
--- The default of a `match` says of a number that it is none of those before. Of a list of kinds the last is left then, and a number
--- that is no kind counts as Unhandled.
+-- The default of a `match` says of a number that it is none of those before. Of a list of kinds the last is left then, and of all kinds
+-- those that are numbers and Unhandled, as which a number that is no kind counts.
 use Prim.Native.Nat.{ℕ, zero, suc, _≤_}
-use mathlib.Core.Path.{_≡_, refl, sym}
+use mathlib.Core.Path.{_≡_, refl, sym, _∙_}
 use mathlib.Core.Bool.{Bool, true, false, cond, or-false}
 use mathlib.Core.List.{List, [], _∷_, _++_}
+use mathlib.Core.Logic.{inl, inr}
 use native.Mathlib.Omega.{arith}
-use lib.Dec.{leb}
-use borrow.Author.Tests.{eqb-true, leb-true}
-use Rattle.rfc6733.specs.Value.{oneOf}
-use Rattle.record.specs.Kinds.{unhandled, time}
-use Rattle.rfc6733.proofs.Listed.{one-of-append, Unlisted, unlisted}
+use lib.Dec.{eqb, leb}
+use borrow.Author.Tests.{eqb-true, eqb-false, eq-eqb, leb-true}
+use Rattle.octets.proofs.Runs.{false-true}
+use Rattle.refusal.proofs.Tests.{decide}
+use Rattle.record.specs.Kinds.{unhandled, octetString, grouped, utf8String, diameterIdentity, diameterURI, address, time}
+use Rattle.record.specs.Value.{Value}
+use Rattle.rfc6733.specs.Value.{kinds32, kinds64, oneOf, dataAs}
+use Rattle.rfc6733.proofs.Listed.{one-of-append, Each, of-listed, Unlisted, unlisted}
 use Rattle.attribute.specs.ByTable.{known}
+use Rattle.value.specs.Values.{fixedAs, valueIf}
 
 -- one of several, and none of the first ones, is the last
 pub last-one : {k : ℕ} (xs : List ℕ) (x : ℕ) → Unlisted (Unit {0}) k xs → oneOf k (xs ++ (x ∷ [])) ≡ true → x ≡ k
@@ -19,19 +24,36 @@ last-one {k} xs x u h = sym (eqb-true k x (rw (one-of-append, unlisted k xs u, o
 lower : {k n : ℕ} → (k ≡ suc n → ⊥) → k ≤ suc n → k ≤ n
 lower other h = omega arith
 
--- k is none of the numbers from 1 to n, as the default of a match that lists them in this order says it
-abbrev pub NoneTo : ℕ → ℕ → Type 0
-NoneTo k zero = Unit {0}
-NoneTo k (suc n) = NoneTo k n × (k ≡ suc n → ⊥)
+-- the numbers from n down to 0
+abbrev upTo : ℕ → List ℕ
+upTo zero = 0 ∷ []
+upTo (suc n) = suc n ∷ upTo n
 
-none-left : {k : ℕ} (n : ℕ) → NoneTo k n → k ≤ n → k ≤ 0
-none-left zero none h = h
-none-left (suc n) none h = none-left n (none .0) (lower (none .1) h)
+listed-up-to : (n k : ℕ) → k ≤ n → oneOf k (upTo n) ≡ true
+listed-up-to zero k h = rw (eq-eqb k 0 (omega arith))
+listed-up-to (suc n) k h =
+    elim (decide (eqb k (suc n))) [ inl e ↦ rw e | inr e ↦ rw e (listed-up-to n k (lower (eqb-false k (suc n) e) h)) ]
 
--- `Value::new_known` lists every kind but Unhandled, so what it does not list is Unhandled, and so is a number that is no kind
-pub none-known : {k : ℕ} → NoneTo k time → known k ≡ unhandled
-none-known {k} none = by (leb k time) refl
-  where
-    by : (b : Bool) → leb k time ≡ b → cond b k unhandled ≡ unhandled
-    by true t = omega (arith, none-left time none (leb-true k time t))
-    by false t = refl
+-- the kinds that are no numbers: `Value::new_known` has an arm for each
+abbrev pub others : List ℕ
+others = octetString ∷ grouped ∷ utf8String ∷ diameterIdentity ∷ diameterURI ∷ address ∷ []
+
+module _ (tiles : Bool) (asAddress : List ℕ → Value) (s : List ℕ) where
+  abbrev Left : ℕ → Type 0
+  Left k = oneOf k others ≡ false → valueIf tiles asAddress k s ≡ fixedAs k s
+
+  left-kind : (k : ℕ) → k ≤ time → Left k
+  unfolding valueIf dataAs fixedAs
+  left-kind k h = of-listed Left (upTo time) (λ u. refl, (λ u. absurd (false-true (sym u)), (λ u. absurd (false-true (sym u)), (λ u. absurd (false-true (sym u)), (λ u. absurd (false-true (sym u)), (λ u. refl, (λ u. absurd (false-true (sym u)), (λ u. refl, (λ u. refl, (λ u. refl, (λ u. refl, (λ u. refl, (λ u. refl, (λ u. absurd (false-true (sym u)), (λ u. refl, tt))))))))))))))) k (listed-up-to time k h)
+
+  no-kind : (k : ℕ) (ks : List ℕ) → leb k time ≡ false → Each (λ (n : ℕ). leb n time ≡ true) ks → oneOf k ks ≡ false
+  no-kind k ks past all = elim (decide (oneOf k ks)) [ inl e ↦ absurd (false-true (sym past ∙ of-listed _ ks all k e)) | inr e ↦ e ]
+
+  -- what has no arm of its own is a number, or Unhandled, and so is what is no kind
+  pub left-over : (k : ℕ) → Unlisted (Unit {0}) k others → valueIf tiles asAddress (known k) s ≡ fixedAs k s
+  unfolding valueIf dataAs fixedAs
+  left-over k none = by (leb k time) refl
+    where
+      by : (b : Bool) → leb k time ≡ b → valueIf tiles asAddress (cond b k unhandled) s ≡ fixedAs k s
+      by true t = left-kind k (leb-true k time t) (unlisted k others none)
+      by false t = rw (no-kind k kinds32 t (refl, (refl, (refl, (refl, (refl, tt))))), no-kind k kinds64 t (refl, (refl, (refl, tt))))

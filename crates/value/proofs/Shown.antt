@@ -4,10 +4,11 @@ use Prim.Native.Nat.{ℕ, _<_, _≤_}
 use mathlib.Core.Path.{_≡_, refl, sym, ap, _∙_}
 use mathlib.Core.Bool.{Bool, true, false, cond}
 use mathlib.Core.List.{List}
+use mathlib.Core.Logic.{inl, inr}
 use native.Mathlib.Omega.{arith}
 use lib.ListN.{length}
 use lib.Dec.{ltb, eqb}
-use borrow.Author.Tests.{lt-ltb, le-ltb, eqb-false}
+use borrow.Author.Tests.{lt-ltb, le-ltb, eqb-true, eqb-false}
 use Rattle.octets.specs.Octets.{be}
 use Rattle.address.specs.declared.IpAddr.{IpAddr}
 use Rattle.address.specs.declared.Found.{Found}
@@ -17,17 +18,16 @@ use Rattle.utf8.specs.Checked.{checked}
 use Rattle.utf8.specs.declared.Utf8.{Utf8}
 use Rattle.utf8.specs.declared.Utf8.the-variants.{WellFormed, ValidUpTo}
 use Rattle.utf8.proofs.Answers.{Says, says}
+use Rattle.refusal.proofs.Tests.{decide}
 use Rattle.flags.specs.Flags.{dataValue, dataLength, flag}
 use Rattle.record.specs.Value as values
-use Rattle.rfc6733.specs.Value.{kinds32, kinds64, oneOf, fixed, dataAs}
-use Rattle.rfc6733.proofs.Listed.{of-listed}
+use Rattle.rfc6733.specs.Value.{kinds32, kinds64, oneOf, fixed}
 use Rattle.record.specs.Value.{value, text}
 use Rattle.record.specs.Kinds.{address, grouped, unhandled}
-use Rattle.attribute.specs.ByTable.{known}
 use Rattle.value.specs.declared.Value.{Value}
 use Rattle.value.specs.declared.Value.the-variants.{Unhandled, Grouped, Address}
 use Rattle.value.specs.declared.Read.{Read}
-use Rattle.value.specs.Values.{kindOf, numberOf, readAs, textOf, textErrors, addressOrNone, addressErrors, Shows, valueIf}
+use Rattle.value.specs.Values.{kindOf, numberOf, readAs, textOf, textErrors, addressOrNone, addressErrors, fixedAs, Shows}
 
 -- r was made of a value and its error flags
 abbrev pub Made : Value → ℕ → Read → Type 0
@@ -61,6 +61,16 @@ fixed-kind w k s other = by (ltb (length s) w)
     by true = refl
     by false = other
 
+fixed-as-kind : (k : ℕ) (s : List ℕ) → eqb (fixedAs k s .kind) address ≡ false
+unfolding fixedAs
+fixed-as-kind k s = elim (decide (eqb k address)) [ inl e ↦ rw (eqb-true k address e) | inr e ↦ by (oneOf k kinds32) (oneOf k kinds64) e ]
+  where
+    by : (b c : Bool) → eqb k address ≡ false
+        → eqb (cond b (fixed 4 k s) (cond c (fixed 8 k s) (value unhandled 0 0)) .kind) address ≡ false
+    by true c other = fixed-kind 4 k s other
+    by false true other = fixed-kind 8 k s other
+    by false false other = refl
+
 -- ---- what a value shows of the data
 
 module _ (s : List ℕ) (r : Read) where
@@ -69,8 +79,8 @@ module _ (s : List ℕ) (r : Read) where
   unfolding readAs
   no-address v e other = record { value = e; address = λ a is. absurd (eqb-false (v .kind) address other (cc)) }
 
-  a-number : (w k : ℕ) → eqb k address ≡ false → readAs r ≡ fixed w k s → Shows (fixed w k s) s r
-  a-number w k other e = no-address (fixed w k s) e (fixed-kind w k s other)
+  pub a-number : (k : ℕ) → readAs r ≡ fixedAs k s → Shows (fixedAs k s) s r
+  a-number k e = no-address (fixedAs k s) e (fixed-as-kind k s)
 
   pub is-unhandled : (e : ℕ) → Made (Unhandled 0) e r → Shows (value unhandled e 0) s r
   is-unhandled e made = no-address (value unhandled e 0) (read-as r (Unhandled 0) e made) refl
@@ -103,19 +113,3 @@ module _ (s : List ℕ) (r : Read) where
       same (found.Address b) a e = cc
       same found.BadLength a e = absurd (unhandled-address e)
       same found.OtherFamily a e = absurd (unhandled-address e)
-
-  -- a number by the arm of its kind n, in the words of `Value::new_known`
-  module _ (tiles : Bool) (asAddress : List ℕ → values.Value) (k : ℕ) {n : ℕ} (arm : k ≡ n) where
-    abbrev Number : ℕ → ℕ → Type 0
-    Number w n = readAs r ≡ fixed w n s → Shows (valueIf tiles asAddress (known n) s) s r
-
-    pub number-32 : oneOf n kinds32 ≡ true → readAs r ≡ fixed 4 n s → Shows (valueIf tiles asAddress (known k) s) s r
-    unfolding valueIf dataAs
-    number-32 one =
-        rw arm
-        (of-listed (Number 4) kinds32 (a-number 4 _ refl, (a-number 4 _ refl, (a-number 4 _ refl, (a-number 4 _ refl, (a-number 4 _ refl, tt)))))
-        n one)
-
-    pub number-64 : oneOf n kinds64 ≡ true → readAs r ≡ fixed 8 n s → Shows (valueIf tiles asAddress (known k) s) s r
-    unfolding valueIf dataAs
-    number-64 one = rw arm (of-listed (Number 8) kinds64 (a-number 8 _ refl, (a-number 8 _ refl, (a-number 8 _ refl, tt))) n one)

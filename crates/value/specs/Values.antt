@@ -13,7 +13,7 @@ use Rattle.utf8.specs.declared.Utf8.the-variants.{WellFormed, ValidUpTo}
 use Rattle.flags.specs.Flags.{dataValue, dataLength}
 use Rattle.record.specs.Kinds as kinds
 use Rattle.record.specs.Value as values
-use Rattle.rfc6733.specs.Value.{dataAs}
+use Rattle.rfc6733.specs.Value.{kinds32, kinds64, oneOf, fixed, dataAs}
 use Rattle.rfc6733.specs.Records.{tiling}
 use Rattle.value.specs.declared.Value.{Value}
 use Rattle.value.specs.declared.Value.the-variants.{Unhandled, OctetString, Integer32, Integer64, Unsigned32, Unsigned64, Float32, Float64, Grouped, Enumerated, UTF8String, DiameterIdentity, DiameterURI, Address, Time}
@@ -63,6 +63,13 @@ textOf (ValidUpTo n) v = Unhandled n
 abbrev pub textErrors : Utf8 → ℕ
 textErrors WellFormed = 0
 textErrors (ValidUpTo n) = dataValue
+
+-- data as a number by its kind, and Unhandled by any other
+unfoldable pub fixedAs : ℕ → List ℕ → values.Value
+fixedAs k s =
+    cond (oneOf k kinds32) (fixed 4 k s)
+    (cond (oneOf k kinds64) (fixed 8 k s)
+    (values.value kinds.unhandled 0 0))
 
 -- data that should be an Address, as the crate address has it: an Address or none
 abbrev pub addressOrNone : Found → Value

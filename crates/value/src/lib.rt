@@ -25,7 +25,7 @@ ghost use Rattle.rfc6733.specs.Value.{kinds32, kinds64, oneOf, fixed};
 ghost use Rattle.rfc6733.specs.Records.{tiling};
 ghost use Rattle.flags.specs.Flags.{dataValue};
 ghost use Rattle.attribute.specs.ByTable.{known, addressBy};
-ghost use Rattle.value.specs.Values.{kindOf, numberOf, textOf, textErrors, addressOrNone, addressErrors, readAs, Shows, valueIf, newValue};
+ghost use Rattle.value.specs.Values.{kindOf, numberOf, textOf, textErrors, addressOrNone, addressErrors, fixedAs, readAs, Shows, valueIf, newValue};
 
 /// AVP Data Format as specified in RFC 6733, section 4.2. Data that are no number stay in the input;
 /// a number is held as its bits, whatever its sign or form.
@@ -141,6 +141,23 @@ impl Read {
         }
     }
 
+    // A number by its kind, and Unhandled by any other. The kind is a constant in its arm, so that the compiler knows what it builds.
+    fn fixed(kind: u8, data: &[u8]) -> Read
+        ensures { λ r. ⌜ readAs r ≡ fixedAs kind (now («data» .entry)) ⌝ }
+    {
+        match kind {
+            INTEGER32 => Read::fixed_32(INTEGER32, data),
+            UNSIGNED32 => Read::fixed_32(UNSIGNED32, data),
+            FLOAT32 => Read::fixed_32(FLOAT32, data),
+            ENUMERATED => Read::fixed_32(ENUMERATED, data),
+            TIME => Read::fixed_32(TIME, data),
+            INTEGER64 => Read::fixed_64(INTEGER64, data),
+            UNSIGNED64 => Read::fixed_64(UNSIGNED64, data),
+            FLOAT64 => Read::fixed_64(FLOAT64, data),
+            _ => Read::unhandled(0),
+        }
+    }
+
     // What an Address's data are.
     fn address(found: Found) -> Read
         ensures { λ r. ⌜ (r .value ≡ addressOrNone found) × (r .errors ≡ addressErrors found) ⌝ }
@@ -196,18 +213,9 @@ impl Value {
     pub fn new_known(families: bool, tiles: bool, kind: u8, data: &[u8]) -> Read
         ensures { λ r. ⌜ Shows (valueIf (tiles || tiling (now («data» .entry))) (addressBy families) (known kind) (now («data» .entry))) (now («data» .entry)) r ⌝ }
     {
-        // A number's kind is a constant in its arm, so that the compiler knows what it builds. `data` keeps the slice in
-        // registers: one that is passed on whole is kept in memory.
         match kind {
             OCTET_STRING => Read::good(Value::OctetString),
-            INTEGER32 => Read::fixed_32(INTEGER32, data),
-            INTEGER64 => Read::fixed_64(INTEGER64, data),
-            UNSIGNED32 => Read::fixed_32(UNSIGNED32, data),
-            UNSIGNED64 => Read::fixed_64(UNSIGNED64, data),
-            FLOAT32 => Read::fixed_32(FLOAT32, data),
-            FLOAT64 => Read::fixed_64(FLOAT64, data),
             GROUPED => Read::group(tiles || front::tiles(data)),
-            ENUMERATED => Read::fixed_32(ENUMERATED, data),
             UTF8_STRING => Read::text(utf8::check(data), Value::UTF8String),
             DIAMETER_IDENTITY => Read::text(utf8::check(data), Value::DiameterIdentity),
             DIAMETER_URI => Read::text(utf8::check(data), Value::DiameterURI),
@@ -218,8 +226,7 @@ impl Value {
                     address::bare(data)
                 })
             }
-            TIME => Read::fixed_32(TIME, data),
-            _ => Read::unhandled(0),
+            _ => Read::fixed(kind, data),
         }
     }
 

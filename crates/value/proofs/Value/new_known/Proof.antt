@@ -10,8 +10,8 @@ use Rattle.attribute.specs.ByTable.{addressBy}
 use Rattle.address.specs.Addresses.{Finds}
 use Rattle.value.specs.declared.Value.the-variants.{OctetString, UTF8String, DiameterIdentity, DiameterURI}
 use Rattle.value.specs.Values.{valueIf}
-use Rattle.value.proofs.KnownKinds.{none-known}
-use Rattle.value.proofs.Shown.{read-as, no-address, is-unhandled, a-group, a-text, an-address, number-32, number-64}
+use Rattle.value.proofs.KnownKinds.{left-over}
+use Rattle.value.proofs.Shown.{read-as, no-address, a-group, a-text, an-address, a-number}
 use Rattle.value.proofs.Value.new_known.Statement.{statement}
 use Rattle.value.proofs.Value.new_known.Tie as tie
 
@@ -23,21 +23,21 @@ returns c = rw (c .before .match .keys1) (no-address _ _ _ (read-as _ OctetStrin
 known-or-asked : (c : tie.Joined1) → let a = c .before .before .before .args in a .tiles || tiling (now (a .«data»)) ≡ c .if1 .group
 known-or-asked c = ⊎-elim (λ w. rw (w .1, w .0 .taken)) (λ w. rw (w .2, w .1 .ensures, w .0 .left)) (c .if1 .came)
 
-returns-8 : tie.Need-returns-8
+returns-2 : tie.Need-returns-2
 unfolding valueIf
-returns-8 c = rw (c .before .before .match .keys8, known-or-asked (c .before)) (a-group _ _ (c .before .if1 .group) (c .group .ensures))
+returns-2 c = rw (c .before .before .match .keys2, known-or-asked (c .before)) (a-group _ _ (c .before .if1 .group) (c .group .ensures))
 
-returns-10 : tie.Need-returns-10
+returns-3 : tie.Need-returns-3
 unfolding valueIf dataAs
-returns-10 c = rw (c .before .before .match .keys10) (a-text _ _ UTF8String refl refl _ (c .before .check .ensures) (c .text .ensures))
+returns-3 c = rw (c .before .before .match .keys3) (a-text _ _ UTF8String refl refl _ (c .before .check .ensures) (c .text .ensures))
 
-returns-11 : tie.Need-returns-11
+returns-4 : tie.Need-returns-4
 unfolding valueIf dataAs
-returns-11 c = rw (c .before .before .match .keys11) (a-text _ _ DiameterIdentity refl refl _ (c .before .check2 .ensures) (c .text2 .ensures))
+returns-4 c = rw (c .before .before .match .keys4) (a-text _ _ DiameterIdentity refl refl _ (c .before .check2 .ensures) (c .text2 .ensures))
 
-returns-12 : tie.Need-returns-12
+returns-5 : tie.Need-returns-5
 unfolding valueIf dataAs
-returns-12 c = rw (c .before .before .match .keys12) (a-text _ _ DiameterURI refl refl _ (c .before .check3 .ensures) (c .text3 .ensures))
+returns-5 c = rw (c .before .before .match .keys5) (a-text _ _ DiameterURI refl refl _ (c .before .check3 .ensures) (c .text3 .ensures))
 
 -- what was found is what the dictionary has
 found-by : (c : tie.Joined2) → let a = c .before .before .before .args in
@@ -45,28 +45,18 @@ found-by : (c : tie.Joined2) → let a = c .before .before .before .args in
 unfolding addressBy
 found-by c = ⊎-elim (λ w. rw (w .2, w .0 .taken) (w .1 .ensures)) (λ w. rw (w .2, w .0 .left) (w .1 .ensures)) (c .if2 .came)
 
-returns-13 : tie.Need-returns-13
+returns-6 : tie.Need-returns-6
 unfolding valueIf dataAs
-returns-13 c = rw (c .before .before .match .keys13) (an-address _ _ _ _ (found-by (c .before)) (c .address .ensures))
+returns-6 c = rw (c .before .before .match .keys6) (an-address _ _ _ _ (found-by (c .before)) (c .address .ensures))
 
-returns-15 : tie.Need-returns-15
-unfolding valueIf dataAs
-returns-15 c = rw (none-known (c .before .match .rest)) (is-unhandled _ _ 0 (c .unhandled .ensures))
+returns-7 : tie.Need-returns-7
+returns-7 c = rw (left-over _ _ _ _ (c .before .match .rest)) (a-number _ _ _ (c .fixed .ensures))
 
 pub new-known-spec : {M : Type 1} → statement M
 new-known-spec =
     tie.close
     (tie.spec
     (λ c κs. tt)
-    (λ c κs. refl)
-    (λ c κs. refl)
-    (λ c κs. refl)
-    (λ c κs. refl)
-    (λ c κs. refl)
-    (λ c κs. refl)
-    (λ c κs. tt)
-    (λ c κs. tt)
-    (λ c κs. refl)
     (λ c κs. tt)
     (λ c κs. tt)
     (λ c κs. tt)
@@ -76,20 +66,13 @@ new-known-spec =
     (λ c κs. tt)
     (λ c κs. tt)
     (λ c κs. tt)
-    (λ c κs. refl)
+    (λ c κs. tt)
+    (λ c κs. tt)
     (λ c κs. tt)
     returns
-    (λ c. number-32 _ _ _ _ _ (c .before .match .keys2) refl (c .fixed-32 .ensures))
-    (λ c. number-64 _ _ _ _ _ (c .before .match .keys3) refl (c .fixed-64 .ensures))
-    (λ c. number-32 _ _ _ _ _ (c .before .match .keys4) refl (c .fixed-322 .ensures))
-    (λ c. number-64 _ _ _ _ _ (c .before .match .keys5) refl (c .fixed-642 .ensures))
-    (λ c. number-32 _ _ _ _ _ (c .before .match .keys6) refl (c .fixed-323 .ensures))
-    (λ c. number-64 _ _ _ _ _ (c .before .match .keys7) refl (c .fixed-643 .ensures))
-    returns-8
-    (λ c. number-32 _ _ _ _ _ (c .before .match .keys9) refl (c .fixed-324 .ensures))
-    returns-10
-    returns-11
-    returns-12
-    returns-13
-    (λ c. number-32 _ _ _ _ _ (c .before .match .keys14) refl (c .fixed-325 .ensures))
-    returns-15)
+    returns-2
+    returns-3
+    returns-4
+    returns-5
+    returns-6
+    returns-7)

@@ -5,10 +5,10 @@ use mathlib.Core.Bool.{true}
 use mathlib.Core.List.{List, [], _∷_}
 use mathlib.Core.Logic.{⊎-elim}
 use denote.Enum.Declared.{tagOf}
-use types.Run.{OneOf}
 use borrow.Author.Needs.{needs}
 use Rattle.octets.proofs.Runs.{false-true}
 use Rattle.rfc6733.specs.Value.{oneOf}
+use Rattle.rfc6733.proofs.Listed.{one-of}
 use Rattle.value.specs.declared.Value.{Value}
 use Rattle.value.specs.declared.Value.the-variants.{Unhandled, OctetString, Integer32, Integer64, Unsigned32, Unsigned64, Float32, Float64, Grouped, Enumerated, UTF8String, DiameterIdentity, DiameterURI, Address, Time}
 use Rattle.value.specs.Values.{numberOf}
@@ -19,9 +19,6 @@ use Rattle.value.proofs.Value.number.Tie as tie
 -- the tags of the values that have no number, which the default of the match is for
 abbrev unnumbered : List ℕ
 unnumbered = 1 ∷ 8 ∷ 10 ∷ 11 ∷ 12 ∷ []
-
-is-unnumbered : (t : ℕ) → OneOf unnumbered t → oneOf t unnumbered ≡ true
-is-unnumbered t = ⊎-elim (λ e. rw e) (⊎-elim (λ e. rw e) (⊎-elim (λ e. rw e) (⊎-elim (λ e. rw e) (λ e. rw e))))
 
 no-number : (v : Value) → oneOf (tagOf the-type v) unnumbered ≡ true → 0 ≡ numberOf v
 no-number (Unhandled n) t = absurd (false-true t)
@@ -41,7 +38,7 @@ no-number (Address a) t = absurd (false-true t)
 no-number (Time n) t = absurd (false-true t)
 
 returns-2 : tie.Need-returns-2
-returns-2 c = no-number (c .before .args .self) (is-unnumbered _ (c .match .keys11))
+returns-2 c = no-number (c .before .args .self) (one-of unnumbered _ (c .match .keys11))
 
 returns-3 : tie.Need-returns-3
 returns-3 c =
