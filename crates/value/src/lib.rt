@@ -125,16 +125,7 @@ impl Read {
         if size < Value::SIZE_64 {
             return Read::unhandled(ErrorFlags::DataLength as u8);
         }
-        let bits = octets::be_u64(
-            data[0],
-            data[1],
-            data[2],
-            data[3],
-            data[4],
-            data[5],
-            data[6],
-            data[7],
-        );
+        let bits = word::be_u64(data);
         Read {
             value: Value::of_64(kind, bits),
             errors: flags::raised(Value::SIZE_64 < size, ErrorFlags::DataLength as u8),

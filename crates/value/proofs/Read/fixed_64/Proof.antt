@@ -2,7 +2,6 @@
 -- the flag is raised where bytes are left over.
 use native.Mathlib.Omega.{arith}
 use borrow.Author.Needs.{needs}
-use Rattle.octets.proofs.Numbers.{read-at}
 use Rattle.value.proofs.Shown.{too-few, enough}
 use Rattle.value.proofs.Read.fixed_64.Statement.{statement}
 use Rattle.value.proofs.Read.fixed_64.Tie as tie
@@ -14,16 +13,8 @@ fixed-64-spec =
     (λ c. search needs)
     (λ c κs. search needs)
     (λ c. too-few _ _ _ _ (omega arith) (c .unhandled .ensures))
-    (λ c. search needs)
-    (λ c. search needs)
-    (λ c. search needs)
-    (λ c. search needs)
-    (λ c. search needs)
-    (λ c. search needs)
-    (λ c. search needs)
-    (λ c. search needs)
     (λ c κs. search needs)
     (λ c κs. search needs)
     (λ c. search needs)
     (λ c κs. search needs)
-    (λ c. enough 8 _ _ _ _ _ (omega arith) (c .before .of-64 .ensures) (read-at 8 _ 0 _ (c .before .before .be-u64 .ensures)) (c .raised .ensures)))
+    (λ c. enough 8 _ _ _ _ _ (omega arith) (c .before .of-64 .ensures) (c .before .before .be-u64 .ensures) (c .raised .ensures)))
