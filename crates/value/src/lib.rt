@@ -249,8 +249,10 @@ impl Value {
         ensures { λ r. ⌜ r ≡ numberOf self ⌝ }
     {
         match self {
-            Value::Unhandled(n) | Value::Integer64(n) | Value::Unsigned64(n) | Value::Float64(n) =>
-                n,
+            Value::Unhandled(n) => n,
+            Value::Integer64(n) => n,
+            Value::Unsigned64(n) => n,
+            Value::Float64(n) => n,
             Value::Integer32(n)
             | Value::Unsigned32(n)
             | Value::Float32(n)

@@ -37,11 +37,11 @@ no-number DiameterURI t = refl
 no-number (Address a) t = absurd (false-true t)
 no-number (Time n) t = absurd (false-true t)
 
-returns-2 : tie.Need-returns-2
-returns-2 c = no-number (c .before .args .self) (one-of unnumbered _ (c .match .keys11))
+returns-6 : tie.Need-returns-6
+returns-6 c = no-number (c .before .args .self) (one-of unnumbered _ (c .match .keys11))
 
-returns-3 : tie.Need-returns-3
-returns-3 c =
+returns-7 : tie.Need-returns-7
+returns-7 c =
     ⊎-elim (λ w. rw (w .1 .given .1) (w .3))
     (⊎-elim (λ w. rw (w .1 .given .1) (w .3))
     (⊎-elim (λ w. rw (w .1 .given .1) (w .3)) (⊎-elim (λ w. rw (w .1 .given .1) (w .3)) (λ w. rw (w .1 .given .1) (w .3)))))
@@ -62,10 +62,10 @@ number-spec =
     (λ c. c .match .keys9)
     (λ c. c .match .keys10)
     (λ c κs. tt)
-    (λ c. rw (c .before .before .self10 .given .1) (c .number .ensures))
-    returns-2
-    returns-3
     (λ c. rw (c .before .self .given .1))
     (λ c. rw (c .before .self2 .given .1))
     (λ c. rw (c .before .self3 .given .1))
-    (λ c. rw (c .before .self4 .given .1)))
+    (λ c. rw (c .before .self4 .given .1))
+    (λ c. rw (c .before .before .self10 .given .1) (c .number .ensures))
+    returns-6
+    returns-7)
