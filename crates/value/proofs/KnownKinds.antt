@@ -38,16 +38,24 @@ listed-up-to (suc n) k h =
 abbrev pub others : List ℕ
 others = octetString ∷ grouped ∷ utf8String ∷ diameterIdentity ∷ diameterURI ∷ address ∷ []
 
+-- no list of kinds has a number past the last
+no-kind : (k : ℕ) (ks : List ℕ) → leb k time ≡ false → Each (λ (n : ℕ). leb n time ≡ true) ks → oneOf k ks ≡ false
+no-kind k ks past all = elim (decide (oneOf k ks)) [ inl e ↦ absurd (false-true (sym past ∙ of-listed _ ks all k e)) | inr e ↦ e ]
+
+has-arm : {A : Type 0} → true ≡ false → A
+has-arm u = absurd (false-true (sym u))
+
 module _ (tiles : Bool) (asAddress : List ℕ → Value) (s : List ℕ) where
   abbrev Left : ℕ → Type 0
   Left k = oneOf k others ≡ false → valueIf tiles asAddress k s ≡ fixedAs k s
 
+  -- from Time down to Unhandled: a kind has an arm, or both definitions read it alike
   left-kind : (k : ℕ) → k ≤ time → Left k
   unfolding valueIf dataAs fixedAs
-  left-kind k h = of-listed Left (upTo time) (λ u. refl, (λ u. absurd (false-true (sym u)), (λ u. absurd (false-true (sym u)), (λ u. absurd (false-true (sym u)), (λ u. absurd (false-true (sym u)), (λ u. refl, (λ u. absurd (false-true (sym u)), (λ u. refl, (λ u. refl, (λ u. refl, (λ u. refl, (λ u. refl, (λ u. refl, (λ u. absurd (false-true (sym u)), (λ u. refl, tt))))))))))))))) k (listed-up-to time k h)
-
-  no-kind : (k : ℕ) (ks : List ℕ) → leb k time ≡ false → Each (λ (n : ℕ). leb n time ≡ true) ks → oneOf k ks ≡ false
-  no-kind k ks past all = elim (decide (oneOf k ks)) [ inl e ↦ absurd (false-true (sym past ∙ of-listed _ ks all k e)) | inr e ↦ e ]
+  left-kind k h =
+      of-listed Left (upTo time)
+      (λ u. refl, (has-arm, (has-arm, (has-arm, (has-arm, (λ u. refl, (has-arm, (λ u. refl, (λ u. refl, (λ u. refl, (λ u. refl, (λ u. refl, (λ u. refl, (has-arm, (λ u. refl, tt))))))))))))))) k
+      (listed-up-to time k h)
 
   -- what has no arm of its own is a number, or Unhandled, and so is what is no kind
   pub left-over : (k : ℕ) → Unlisted (Unit {0}) k others → valueIf tiles asAddress (known k) s ≡ fixedAs k s

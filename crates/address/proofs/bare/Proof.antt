@@ -2,7 +2,6 @@
 use native.Mathlib.Omega.{arith}
 use lib.ListN.{length}
 use denote.Ref.{now}
-use borrow.Author.Needs.{needs}
 use borrow.Author.Tests.{eq-eqb, ne-eqb}
 use Rattle.rfc6733.specs.Dictionary.{bareAddress}
 use Rattle.address.proofs.Shown.{bad-length, ipv4, ipv6}

@@ -5,7 +5,6 @@ use mathlib.Core.Bool.{true}
 use mathlib.Core.List.{List, [], _∷_}
 use mathlib.Core.Logic.{⊎-elim}
 use denote.Enum.Declared.{tagOf}
-use borrow.Author.Needs.{needs}
 use Rattle.octets.proofs.Runs.{false-true}
 use Rattle.rfc6733.specs.Value.{oneOf}
 use Rattle.rfc6733.proofs.Listed.{one-of}
