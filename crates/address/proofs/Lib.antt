@@ -1,2 +1,2 @@
-pub mod OneAnswer
+pub mod OneFound
 pub mod Shown

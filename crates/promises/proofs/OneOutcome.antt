@@ -117,7 +117,7 @@ use Rattle.header.proofs.AnswerOf as header-answers
 use Rattle.front.proofs.AnswerOf as front-answers
 use Rattle.steps.proofs.AnswerOf as steps-answers
 use Rattle.unit_value.proofs.AnswerOf as unit-value-answers
-use Rattle.address.proofs.OneAnswer.{one-answer}
+use Rattle.address.proofs.OneFound.{one-found}
 use Rattle.value.proofs.ReadAs.{one-value}
 use Rattle.count.proofs.AnswerOf as count-answers
 use Rattle.avps.proofs.AnswerOf as avps-answers
@@ -399,10 +399,10 @@ address-number-one : Single address-number.Post
 address-number-one κs a r r′ s p q = p ∙ sym q
 
 address-bare-one : Single address-bare.Post
-address-bare-one κs a r r′ s p q = one-answer _ _ r r′ p q
+address-bare-one κs a r r′ s p q = one-found _ _ r r′ p q
 
 address-after-family-one : Single address-after-family.Post
-address-after-family-one κs a r r′ s p q = one-answer _ _ r r′ p q
+address-after-family-one κs a r r′ s p q = one-found _ _ r r′ p q
 
 -- ---- value
 

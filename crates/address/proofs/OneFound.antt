@@ -26,5 +26,5 @@ found-is-back v s r h =
     ap (λ (w : Value). back w (addressOf s (v .number))) (sym (h .value)) ∙ is-back r (addressOf s (v .number)) (h .address)
 
 -- two answers that show the same value of the same data are the same
-pub one-answer : (v : Value) (s : List ℕ) (r r′ : Found) → Finds v s r → Finds v s r′ → r ≡ r′
-one-answer v s r r′ h h′ = sym (found-is-back v s r h) ∙ found-is-back v s r′ h′
+pub one-found : (v : Value) (s : List ℕ) (r r′ : Found) → Finds v s r → Finds v s r′ → r ≡ r′
+one-found v s r r′ h h′ = sym (found-is-back v s r h) ∙ found-is-back v s r′ h′
