@@ -1,38 +1,13 @@
--- Bytes that are put one by one, or as a word, or into a part that was lent, are put over the front as one.
-use Prim.Native.Nat.{ℕ, _+_, _≤_, _<_}
+-- Bytes that are put one by one, or as a word, are put over the front as one.
+use Prim.Native.Nat.{ℕ, _≤_}
 use mathlib.Core.Path.{_≡_, _∙_}
-use mathlib.Core.List.{List, _++_, append-assoc}
-use native.Mathlib.Nat.{zero-add}
+use mathlib.Core.List.{List}
 use native.Mathlib.Omega.{arith}
-use lib.ListN.{length, getD, set, take, drop}
-use lib.Seq.{sets, sets-eq, take-all, drop-drop}
-use borrow.Rule.Slice.PartMut.{putMid}
-use borrow.Author.Tests.{le-leb, lt-leb}
+use lib.ListN.{length, getD, set, take}
+use lib.Seq.{sets, take-all}
 use Rattle.octets.specs.Octets.{be, Bytes, octets, over}
 use Rattle.octets.proofs.Numbers.{written-read}
-use Rattle.octets.proofs.Lists.{put-part}
-use Rattle.body.specs.Body.{putAll}
-
-pub bytes-put : (bs l : List ℕ) → length bs ≤ length l → sets l 0 bs ≡ over bs l
-unfolding over
-bytes-put bs l h = rw (sets-eq bs l 0 (omega arith), zero-add)
-
--- ---- where there is room for all, and where not
-
-module _ (new old : List ℕ) where
-  pub all-put : length new ≤ length old → putAll new old ≡ over new old
-  unfolding putAll
-  all-put h = rw (le-leb (length new) (length old) h)
-
-  pub none-put : length old < length new → old ≡ putAll new old
-  unfolding putAll
-  none-put h = rw (lt-leb (length new) (length old) h)
-
--- bytes over all of a part that was lent
-pub part-put : (new s : List ℕ) (at : ℕ) → at + length new ≤ length s
-    → putMid at (length new) s (over new (take (length new) (drop at s))) ≡ take at s ++ over new (drop at s)
-unfolding over
-part-put new s at h = put-part new s at h ∙ rw (sets-eq new s at h, drop-drop, append-assoc)
+use Rattle.octets.proofs.Lists.{bytes-put}
 
 -- four bytes, read as a number and put
 pub word-copied : (src dst : List ℕ) (v : ℕ) → Bytes src → length src ≡ 4 → 4 ≤ length dst → v ≡ be 4 src 0

@@ -2,8 +2,7 @@
 // This crate knows bytes alone, and puts no more of them than there is room for.
 ghost use mathlib.Core.Path.{_≡_};
 ghost use lib.ListN.{length, take};
-ghost use Rattle.octets.specs.Octets.{octets, over};
-ghost use Rattle.body.specs.Body.{putAll};
+ghost use Rattle.octets.specs.Octets.{octets, over, putAll};
 
 /// Puts `src` over the front of `dst`, where there is room for all of it. Data of four bytes, as most numbers have, are one word.
 pub fn copy(src: &[u8], dst: &mut [u8])

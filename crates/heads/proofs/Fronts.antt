@@ -6,19 +6,15 @@ use mathlib.Core.List.{List, [], _∷_, _++_}
 use native.Mathlib.Omega.{arith}
 use lib.ListN.{length}
 use lib.Seq.{sets}
-use Rattle.octets.specs.Octets.{field, octets, pack, fieldsOf}
+use Rattle.octets.specs.Octets.{field, octets, pack, fieldsOf, putAll}
 use Rattle.octets.proofs.Numbers.{length-pack}
-use Rattle.body.specs.Body.{putAll}
-use Rattle.body.proofs.Puts.{bytes-put, all-put, none-put}
+use Rattle.octets.proofs.Lists.{all-bytes-put, none-put}
 use Rattle.flags.specs.Flags.{bit}
 use Rattle.record.specs.Record.{Record}
 use Rattle.rfc6733.specs.Avp.{vendorBit, headSize}
 use Rattle.rfc6733.specs.Header.{Header, headerLayout}
 use Rattle.rfc6733.specs.Writer.{headOf, headFields}
 use Rattle.round_trip.proofs.Lengths.{head-length}
-
-fields-put : (bs l : List ℕ) → length bs ≤ length l → sets l 0 bs ≡ putAll bs l
-fields-put bs l h = bytes-put bs l h ∙ sym (all-put bs l h)
 
 -- ---- a message's header
 
@@ -28,7 +24,7 @@ module _ (h : Header) (l : List ℕ) where
       sets (sets (sets front 8 (octets 4 (h .appId))) 12 (octets 4 (h .hopId))) 16 (octets 4 (h .endId))
       ≡ putAll (pack (fieldsOf headerLayout h)) l
   unfolding octets
-  header-put room = fields-put (pack (fieldsOf headerLayout h)) l room
+  header-put room = all-bytes-put (pack (fieldsOf headerLayout h)) l room
 
   pub no-header-put : length l < 20 → l ≡ putAll (pack (fieldsOf headerLayout h)) l
   no-header-put none = none-put (pack (fieldsOf headerLayout h)) l (omega (arith, length-pack (fieldsOf headerLayout h)))
@@ -46,7 +42,7 @@ module _ (r : Record) (n : ℕ) (l : List ℕ) where
   pub head-put : bit vendorBit (r .flags) ≡ false → 8 ≤ length l
       → sets (sets l 0 (octets 4 (r .code))) 4 (octets 1 (r .flags) ++ octets 3 n) ≡ putAll (pack (headFields r n)) l
   unfolding octets
-  head-put e h = rw e (fields-put (pack (field 4 (r .code) ∷ field 1 (r .flags) ∷ field 3 n ∷ [])) l h)
+  head-put e h = rw e (all-bytes-put (pack (field 4 (r .code) ∷ field 1 (r .flags) ∷ field 3 n ∷ [])) l h)
 
   pub vendor-put : bit vendorBit (r .flags) ≡ true → headOf r ≤ length l
       → sets (sets (sets l 0 (octets 4 (r .code))) 4 (octets 1 (r .flags) ++ octets 3 n)) 8 (octets 4 (r .vendor))
@@ -54,4 +50,4 @@ module _ (r : Record) (n : ℕ) (l : List ℕ) where
   unfolding octets
   vendor-put e h =
       let fs = field 4 (r .code) ∷ field 1 (r .flags) ∷ field 3 n ∷ field 4 (r .vendor) ∷ [] in
-      rw e (fields-put (pack fs) l (rw (with-vendor r e) at h))
+      rw e (all-bytes-put (pack fs) l (rw (with-vendor r e) at h))

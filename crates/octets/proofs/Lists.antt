@@ -1,12 +1,14 @@
 -- Parts of a list, as code lends them, and bytes over the front of others.
-use Prim.Native.Nat.{ℕ, _+_, _-_, _≤_}
+use Prim.Native.Nat.{ℕ, _+_, _-_, _≤_, _<_}
 use mathlib.Core.Path.{_≡_, refl, sym, ap, _∙_}
 use mathlib.Core.List.{List, [], _++_, append-cancel-left, append-assoc, append-nil}
+use native.Mathlib.Nat.{zero-add}
 use native.Mathlib.Omega.{arith}
 use lib.ListN.{length, take, drop, length-append, length-take, length-drop}
 use lib.Seq.{sets, sets-eq, take-all, take-take, take-add, take-length, drop-length, take-at, drop-at, drop-drop, length-take-le}
 use borrow.Rule.Slice.PartMut.{putMid}
-use Rattle.octets.specs.Octets.{over}
+use borrow.Author.Tests.{le-leb, lt-leb}
+use Rattle.octets.specs.Octets.{over, putAll}
 
 -- what is left of a list, as `&s[at..]` lends it
 pub rest : (s : List ℕ) (at : ℕ) → at ≤ length s → take (length s - at) (drop at s) ≡ drop at s
@@ -51,6 +53,27 @@ pub over-behind : (a b old : List ℕ) (n : ℕ) → length a ≡ n → a ++ ove
 unfolding over
 over-behind a b old n e = rw (drop-drop, length-append, e, append-assoc)
 
+-- ---- where there is room for all, and where not
+
+module _ (new old : List ℕ) where
+  pub all-put : length new ≤ length old → putAll new old ≡ over new old
+  unfolding putAll
+  all-put h = rw (le-leb (length new) (length old) h)
+
+  pub none-put : length old < length new → old ≡ putAll new old
+  unfolding putAll
+  none-put h = rw (lt-leb (length new) (length old) h)
+
+  -- put one by one, from the front on
+  pub bytes-put : length new ≤ length old → sets old 0 new ≡ over new old
+  unfolding over
+  bytes-put h = rw (sets-eq new old 0 (omega arith), zero-add)
+
+  pub all-bytes-put : length new ≤ length old → sets old 0 new ≡ putAll new old
+  all-bytes-put h = bytes-put h ∙ sym (all-put h)
+
+-- ---- copies and parts
+
 -- what a copy leaves
 pub copied : (src old : List ℕ) → take (length src) src ++ drop (length src) old ≡ over src old
 unfolding over
@@ -71,3 +94,9 @@ put-part new s at h =
     let none : drop k part ≡ [] =
     sym (ap (λ (n : ℕ). drop n part) (length-take-le k (drop at s) (omega (arith, length-drop at s)))) ∙ drop-length part in
     rw (sets-eq new s at h, none, append-nil, drop-drop, append-assoc)
+
+-- the same as bytes over what is behind the place
+pub part-put : (new s : List ℕ) (at : ℕ) → at + length new ≤ length s
+    → putMid at (length new) s (over new (take (length new) (drop at s))) ≡ take at s ++ over new (drop at s)
+unfolding over
+part-put new s at h = put-part new s at h ∙ rw (sets-eq new s at h, drop-drop, append-assoc)

@@ -1,8 +1,10 @@
 -- Numbers in bytes, the highest byte first (RFC 6733, section 3: network byte order), said once over the width; and layouts of them.
 use Prim.Native.Nat.{ℕ, zero, suc, _+_, _*_, _/_, _%_, _^_, _<_}
 use mathlib.Core.Path.{_≡_}
+use mathlib.Core.Bool.{cond}
 use mathlib.Core.List.{List, [], _∷_, _++_}
 use lib.ListN.{length, getD, drop}
+use lib.Dec.{leb}
 
 -- reading: the number that n bytes write, from place i on. A byte that is absent counts as 0
 unfoldable pub be : ℕ → List ℕ → ℕ → ℕ
@@ -78,6 +80,10 @@ Fit (w ∷ ws) (n ∷ ns) = (n < 256 ^ w) × Fit ws ns
 -- some bytes over the front of others
 unfoldable pub over : List ℕ → List ℕ → List ℕ
 over new old = new ++ drop (length new) old
+
+-- the same, where there is room for all of them
+unfoldable pub putAll : List ℕ → List ℕ → List ℕ
+putAll new old = cond (leb (length new) (length old)) (over new old) old
 
 -- n bytes were put over the front of others, and they are bs
 pub record Put (n : ℕ) (bs before after : List ℕ) : Type 0 where

@@ -5,22 +5,23 @@ use mathlib.Core.Path.{_≡_, sym}
 use mathlib.Core.Bool.{true, false}
 use mathlib.Core.List.{List}
 use lib.ListN.{length, take, drop}
-use lib.Seq.{sets, sets-eq}
+use lib.Seq.{sets}
 use lib.Dec.{leb}
 use borrow.Author.Tests.{le-leb, lt-leb}
 use Rattle.octets.specs.Octets.{octets, pack, over}
+use Rattle.octets.proofs.Lists.{all-put, none-put, all-bytes-put}
 use Rattle.record.specs.Record.{Record, recordSize, layout, recordBytes}
 use Rattle.record.specs.Store.{put, putFound}
 
 module _ (r : Record) (s : List ℕ) where
   pub no-room : length s < recordSize → (false ≡ leb recordSize (length s)) × (s ≡ put r s)
-  unfolding put
-  no-room few = let no = lt-leb _ _ few in (sym no, rw no)
+  unfolding recordBytes octets
+  no-room few = (sym (lt-leb _ _ few), none-put (recordBytes r) s few)
 
   pub with-room : recordSize ≤ length s
       → (true ≡ leb recordSize (length s)) × (sets (sets s 0 (pack (take 4 (layout r)))) 12 (pack (drop 4 (layout r))) ≡ put r s)
-  unfolding octets over recordBytes put
-  with-room room = let yes = le-leb _ _ room in (sym yes, rw yes (sets-eq (recordBytes r) s 0 room))
+  unfolding recordBytes octets
+  with-room room = (sym (le-leb _ _ room), all-bytes-put (recordBytes r) s room)
 
 -- what was found, in the same way
 module _ (kind errors value : ℕ) (s : List ℕ) where
@@ -35,5 +36,5 @@ module _ (kind errors value : ℕ) (s : List ℕ) where
 
 -- what is put where there is room
 pub put-with-room : (r : Record) (s : List ℕ) → recordSize ≤ length s → put r s ≡ over (recordBytes r) s
-unfolding put
-put-with-room r s room = rw (le-leb _ _ room)
+unfolding recordBytes octets
+put-with-room r s room = all-put (recordBytes r) s room

@@ -5,7 +5,7 @@ use mathlib.Core.List.{List, _++_}
 use lib.ListN.{length, replicate}
 use lib.Seq.{sets}
 use lib.Dec.{leb}
-use Rattle.octets.specs.Octets.{octets, over}
+use Rattle.octets.specs.Octets.{octets, over, putAll}
 use Rattle.refusal.specs.Answer.{Answer, accepted, refused}
 use Rattle.record.specs.Record.{Record, recordSize, recordBytes, laid}
 
@@ -18,8 +18,8 @@ abbrev pub room : List ℕ → ℕ
 room store = capacity (length store)
 
 -- a record over the front of a store that has room for it; one that has none stays as lent
-unfoldable pub put : Record → List ℕ → List ℕ
-put r store = cond (leb recordSize (length store)) (over (recordBytes r) store) store
+abbrev pub put : Record → List ℕ → List ℕ
+put r store = putAll (recordBytes r) store
 
 -- kind, error flags and value at their places in the record at the front, where there is room for one
 unfoldable pub putFound : ℕ → ℕ → ℕ → List ℕ → List ℕ

@@ -3,16 +3,13 @@
 use Prim.Native.Nat.{ℕ, zero, suc, _+_, _-_, _≤_, _<_}
 use mathlib.Core.Path.{_≡_, _∙_}
 use mathlib.Core.List.{List, reverse}
-use native.Mathlib.Nat.{zero-add}
 use native.Mathlib.Omega.{arith}
 use native.Mathlib.Numerals.{towards-suc}
 use lib.ListN.{length, getD, set, take, drop, length-set, length-drop}
-use lib.Seq.{sets, sets-eq, length-take-le}
+use lib.Seq.{sets, length-take-le}
 use borrow.Rule.Slice.PartMut.{putMid}
-use borrow.Author.Tests.{le-leb, lt-leb}
-use Rattle.octets.specs.Octets.{octets, over}
-use Rattle.word.specs.Word.{putNumber}
-use Rattle.octets.proofs.Lists.{put-part}
+use Rattle.octets.specs.Octets.{octets, putAll}
+use Rattle.octets.proofs.Lists.{all-put, none-put, all-bytes-put, put-part}
 use Rattle.octets.proofs.Numbers.{length-octets}
 
 module _ (store : List ℕ) (at : ℕ) (b : List ℕ) where
@@ -33,26 +30,19 @@ module _ (store : List ℕ) (at : ℕ) (b : List ℕ) where
   unfolding octets
   eight-stored v e = rw e (simp towards-suc)
 
+-- a number put over the front where there is room for it, its bytes from the front on
 module _ (n v : ℕ) (s : List ℕ) where
-  -- a number put over the front, if there is room for it
-  number-over : n ≤ length s → putNumber n v s ≡ over (octets n v) s
-  unfolding putNumber
-  number-over h = rw (le-leb n (length s) h)
+  pub number-put : n ≤ length s → sets s 0 (octets n v) ≡ putAll (octets n v) s
+  number-put h = all-bytes-put (octets n v) s (omega (arith, length-octets n v))
 
-  -- its bytes put from the front on
-  pub number-put : n ≤ length s → sets s 0 (octets n v) ≡ putNumber n v s
-  unfolding over
-  number-put h = rw (sets-eq (octets n v) s 0 (omega (arith, length-octets n v)), zero-add, number-over h)
+  pub no-number-put : length s < n → s ≡ putAll (octets n v) s
+  no-number-put h = none-put (octets n v) s (omega (arith, length-octets n v))
 
-  pub no-number-put : length s < n → s ≡ putNumber n v s
-  unfolding putNumber
-  no-number-put h = rw (lt-leb n (length s) h)
-
--- a number put over n bytes that were lent as a part
-pub number-put-at : (n v : ℕ) (s : List ℕ) (at k : ℕ) (part : List ℕ) → k ≡ n → at + n ≤ length s → part ≡ putNumber n v (take k (drop at s))
-    → putMid at k s part ≡ sets s at (octets n v)
+-- and over n bytes that were lent as a part
+pub number-put-at : (n v : ℕ) (s : List ℕ) (at k : ℕ) (part : List ℕ) → k ≡ n → at + n ≤ length s
+    → part ≡ putAll (octets n v) (take k (drop at s)) → putMid at k s part ≡ sets s at (octets n v)
 number-put-at n v s at k part e h came-back =
     let width = length-octets n v in
     let size = length-take-le n (drop at s) (omega (arith, length-drop at s)) in
     let put = put-part (octets n v) s at (omega arith) in
-    rw (came-back, e, number-over n v (take n (drop at s)) (omega arith)) (rw width at put)
+    rw (came-back, e, all-put (octets n v) (take n (drop at s)) (omega arith)) (rw width at put)

@@ -7,11 +7,9 @@ use native.Mathlib.Omega.{arith}
 use lib.ListN.{length, take, drop, length-append, length-drop}
 use lib.Seq.{length-take-le, drop-length}
 use borrow.Rule.Slice.PartMut.{putMid}
-use Rattle.octets.specs.Octets.{octets, pack, over, Put}
+use Rattle.octets.specs.Octets.{octets, pack, over, putAll, Put}
 use Rattle.octets.proofs.Numbers.{length-octets}
-use Rattle.octets.proofs.Lists.{over-more}
-use Rattle.body.specs.Body.{putAll}
-use Rattle.body.proofs.Puts.{all-put, part-put}
+use Rattle.octets.proofs.Lists.{over-more, all-put, part-put}
 use Rattle.rfc6733.specs.Avp.{padding}
 use Rattle.record.specs.Record.{Record}
 use Rattle.rfc6733.specs.Writer.{headOf, statedData, avpBytes, headFields, padBytes, dataIn}

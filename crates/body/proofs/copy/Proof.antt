@@ -4,9 +4,9 @@ use native.Mathlib.Omega.{arith}
 use denote.Ref.{now}
 use borrow.Author.Needs.{needs}
 use Rattle.octets.specs.Octets.{Bytes}
-use Rattle.octets.proofs.Lists.{copied}
+use Rattle.octets.proofs.Lists.{all-put, none-put, copied}
 use Rattle.word.proofs.LastFirst.{number-put-at}
-use Rattle.body.proofs.Puts.{all-put, none-put, word-copied}
+use Rattle.body.proofs.Puts.{word-copied}
 use Rattle.body.proofs.copy.Statement.{statement}
 use Rattle.body.proofs.copy.Tie as tie
 

@@ -8,10 +8,9 @@ use lib.ListN.{length, take, drop, length-take, length-drop}
 use denote.Ref.{now}
 use borrow.Author.Needs.{needs}
 use borrow.Rule.Slice.PartMut.{putMid, same-len-mid}
-use Rattle.octets.specs.Octets.{pack}
+use Rattle.octets.specs.Octets.{pack, putAll}
 use Rattle.octets.proofs.Lists.{rest}
 use Rattle.octets.proofs.Numbers.{length-pack}
-use Rattle.body.specs.Body.{putAll}
 use Rattle.refusal.specs.Answer.{accepted}
 use Rattle.rfc6733.specs.Writer as definition
 use Rattle.record.specs.Store.{output}
