@@ -45,7 +45,7 @@ module _ (D : Dictionary) (limit room place : ℕ) (s : List ℕ) where
       → answerOf (Accepted (record { errors = e; records = records; tried = tried; length = length s })) ≡ runAnswer D limit room place s
   unfolding answerOf countsAs runCounts runAnswer
   accepts records tried f e errors-are =
-      rw (errors-are, f .counted .records-is ∙ sym (records-are D limit room place s), f .counted .tried-is)
+      rw (errors-are, f .counted .records-is ∙ sym (records-are D place s), f .counted .tried-is)
       (sym (answers.accepts (refusals D limit room place s) (runCounts D place s) (f .passes-all)))
 
 -- ---- the store afterwards

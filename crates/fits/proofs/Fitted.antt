@@ -1,17 +1,17 @@
 -- What was counted of a run leads to the answer, in the order of the refusals; and an acceptance says that none of them is given.
 use Prim.Native.Nat.{ℕ, _+_, _≤_, _<_}
-use mathlib.Core.Path.{_≡_, sym, ap, _∙_}
+use mathlib.Core.Path.{_≡_, sym, _∙_}
 use mathlib.Core.Bool.{true, not}
 use mathlib.Core.List.{List, _++_}
 use native.Mathlib.Omega.{arith}
 use lib.ListN.{length}
 use lib.Dec.{ltb}
 use borrow.Author.Tests.{lt-ltb, le-ltb}
-use Rattle.octets.specs.Run.{Tree, tree, tiles, deepest}
+use Rattle.octets.specs.Run.{Tree, tree}
 use Rattle.refusal.specs.Answer.{answer, passes}
 use Rattle.refusal.specs.declared.Refusal.{Refusal}
 use Rattle.refusal.specs.declared.Refusal.the-variants.{NoRecords, TooLong}
-use Rattle.refusal.proofs.Answers.{and-true, kept-not, kept-lt, passed, answer-first}
+use Rattle.refusal.proofs.Answers.{and-true, kept-lt, passed, answer-first}
 use Rattle.record.specs.Refusals.{tileRefusals, roomRefusals}
 use Rattle.record.proofs.Parents.{parented-count}
 use Rattle.rfc6733.specs.Dictionary.{Dictionary}
@@ -21,18 +21,18 @@ use Rattle.rfc6733.specs.Decoder.{allowed, limitRefusals, depthRefusals, fitRef
 use Rattle.rfc6733.proofs.Decoded.{limit-good, more-records, fits}
 use Rattle.rfc6733.proofs.RunRecords.{records-count}
 use Rattle.count.specs.declared.Counted.the-variants.{Fits, Refused}
-use Rattle.count.specs.Counts.{Sums, sums, answerOf, countOf}
-use Rattle.count.proofs.Counts.{Fitting}
+use Rattle.count.specs.Counts.{sums, answerOf, countOf}
+use Rattle.count.proofs.Counts.{Fitting, fitting, was-passing}
 use Rattle.record.specs.Record.{lastPlace}
 use Rattle.fits.specs.Fitting.{refusals, fittingOf}
+
+pub records-are : (D : Dictionary) (place : ℕ) (s : List ℕ) → length (runRecords D place s) ≡ recordCount (tree (avps D) s)
+unfolding runRecords
+records-are D place s = let t = tree (avps D) s in parented-count (rfc.records D place 1 t) ∙ records-count D place 1 t
 
 module _ (D : Dictionary) (limit room place : ℕ) (s : List ℕ) where
   abbrev run : Tree
   run = tree (avps D) s
-
-  pub records-are : length (runRecords D place s) ≡ recordCount run
-  unfolding runRecords
-  records-are = parented-count (rfc.records D place 1 run) ∙ records-count D place 1 run
 
   -- ---- the answer from the facts
 
@@ -68,14 +68,14 @@ module _ (D : Dictionary) (limit room place : ℕ) (s : List ℕ) where
       pub no-records : room < records → answerOf (Refused (NoRecords records)) ≡ fittingOf D limit room place s
       unfolding answerOf
       no-records less =
-          rw (k .records-is) (more-records limit room run (runRecords D place s) (sums run) (k .shallow) records-are (omega (arith, k .records-is)))
+          rw (k .records-is) (more-records limit room run (runRecords D place s) (sums run) (k .shallow) (records-are D place s) (omega (arith, k .records-is)))
           ∙ past-tiles
 
       pub has-room : records ≤ room → answerOf (Fits records tried) ≡ fittingOf D limit room place s
       unfolding answerOf
       has-room room-left =
           rw (k .records-is, k .tried-is)
-          (fits limit room run (runRecords D place s) (sums run) (k .shallow) records-are (omega (arith, k .records-is)))
+          (fits limit room run (runRecords D place s) (sums run) (k .shallow) (records-are D place s) (omega (arith, k .records-is)))
           ∙ past-tiles
 
 -- ---- the facts from an acceptance
@@ -93,21 +93,13 @@ was-fitted D limit room place s records tried e =
     let t = tree (avps D) s in
     let p = passed (refusals D limit room place s) (sums t) _ (sym e) in
     let places = and-true (not (ltb lastPlace (place + length s))) _ (p .0) in
-    let limits = and-true (not (not (allowed limit))) _ (places .1) in
-    let tiled = and-true (not (not (tiles t))) _ (limits .1) in
-    let shallow = and-true (not (ltb limit (deepest t))) _ (tiled .1) in
-    let roomy = and-true (not (ltb room (length (runRecords D place s)))) _ (shallow .1) in
+    let w = was-passing limit t (roomRefusals room (runRecords D place s)) (places .1) in
+    let roomy = and-true (not (ltb room (length (runRecords D place s)))) _ (w .others-pass) in
     let few = kept-lt room (length (runRecords D place s)) (roomy .0) in
-    let count : records ≡ recordCount t = sym (ap (λ (x : Sums). x .records) (p .1)) in
+    let k = fitting records tried w (p .1) in
     record {
       passes-all = p .0;
       near = kept-lt lastPlace (place + length s) (places .0);
-      counted = record {
-        limit-is = kept-not _ (limits .0);
-        tiled = kept-not _ (tiled .0);
-        shallow = kept-lt limit (deepest t) (shallow .0);
-        records-is = count;
-        tried-is = sym (ap (λ (x : Sums). x .tried) (p .1));
-      };
-      room-left = omega (arith, few, count, records-are D limit room place s);
+      counted = k;
+      room-left = omega (arith, few, k .records-is, records-are D place s);
     }
