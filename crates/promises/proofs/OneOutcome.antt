@@ -92,10 +92,9 @@ use Rattle.count.proofs.allowed.Reads as allowed
 use Rattle.count.proofs.count_run.Reads as count-run
 use Rattle.fits.proofs.count_fitting.Reads as count-fitting
 use Rattle.rules.proofs.header_size.Reads as record-header-size
-use Rattle.rules.proofs.keepers.Reads as keepers
+use Rattle.rules.proofs.check.Reads as check-table
 use Rattle.radius_rules.proofs.keepers.Reads as attribute-keepers
 use Rattle.radius_size.proofs.size_run.Reads as size-run
-use Rattle.size.proofs.size_table.Reads as size-table
 use Rattle.writable.proofs.answer.Reads as writable-answer
 use Rattle.radius_value.proofs.types.kind.Reads as type-kind
 use Rattle.radius_value.proofs.read.Reads as attribute-value-read
@@ -481,13 +480,10 @@ dump-one κs input out r r′ after after′ p q = (p .1 .0 ∙ sym (q .1 .0), p
 record-header-size-one : Single record-header-size.Post
 record-header-size-one κs a r r′ s p q = p ∙ sym q
 
-keepers-one : Single keepers.Post
-keepers-one κs a r r′ s p q = p ∙ sym q
+check-table-one : Single check-table.Post
+check-table-one κs a r r′ s p q = p ∙ sym q
 
--- ---- size, writable, body, heads and writer
-
-size-table-one : Single size-table.Post
-size-table-one κs a r r′ s p q = p ∙ sym q
+-- ---- writable, body, heads and writer
 
 writable-answer-one : Single writable-answer.Post
 writable-answer-one κs a r r′ s p q = writer-answers.answer-of-injective r r′ (one-answer _ _ _ _ _ _ p q)

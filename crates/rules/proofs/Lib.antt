@@ -1,4 +1,6 @@
-pub mod LastOnes
 pub mod Entries
 pub mod Checks
 pub mod Records
+pub mod Runs
+pub mod Answered
+pub mod Sums

@@ -1,4 +1,5 @@
-// The rules of a table (docs/FORMAT.md, 8.3): which record is the first to break one.
+// The rules of a table (docs/FORMAT.md, 8.3): which record is the first to break one. If none does, how long AVPs get.
+// The size of a group with all its members is worked out by recursion; so the members' depth and parent are at hand.
 // This crate looks at records alone: it knows how many bytes their places may point into, and none of those bytes.
 use avp::AVP;
 use record::Record;
@@ -6,13 +7,13 @@ use record::kinds::GROUPED;
 use record::kinds::TIME;
 ghost use mathlib.Core.Path.{_≡_};
 ghost use mathlib.Core.Bool.{_&&_, _||_};
-ghost use mathlib.Core.List.{[]};
-ghost use Prim.Native.Nat.{_-_, _%_, _^_, _≤_};
+ghost use Prim.Native.Nat.{_-_, _%_, _^_, min};
 ghost use lib.Dec.{eqb};
 ghost use Rattle.flags.specs.Flags.{bit};
-ghost use Rattle.rfc6733.specs.Avp.{vendorBit, mostDepth};
+ghost use Rattle.rfc6733.specs.Avp.{vendorBit};
 ghost use Rattle.record.specs.Table.{tableOf};
-ghost use Rattle.rfc6733.specs.Writer.{headOf, keepsLeaf, keeps, keepers, allowedAfter};
+ghost use Rattle.rfc6733.specs.Writer.{headOf, keepsLeaf, keeps};
+ghost use Rattle.rules.specs.Checking.{tooMany, checkedOf, Checks};
 
 /// The size of the header of the record's AVP.
 pub fn header_size(r: Record) -> usize
@@ -98,41 +99,82 @@ fn keeps(r: Record, available: usize) -> bool
     keeps_leaf(r, available)
 }
 
-// The depth that is allowed after it: one more only after a group.
-fn allowed_after(r: Record) -> u8
-    requires { ⌜ r .depth ≤ mostDepth ⌝ }
-    ensures { λ n. ⌜ n ≡ allowedAfter r ⌝ }
+// No message has so many bytes, so a size is cut off there.
+const TOO_MANY: usize = 0x100_0000;
+
+fn capped(size: usize) -> usize
+    ensures { λ n. ⌜ n ≡ min size tooMany ⌝ }
 {
-    if r.kind == GROUPED {
-        return r.depth + 1;
+    if TOO_MANY < size {
+        return TOO_MANY;
     }
-    r.depth
+    size
 }
 
-/// How many records keep the rules before the first that breaks one. `last` has the index of the last record of each depth, so that a
-/// parent is found without walking back.
-pub fn keepers(table: &[u8], available: usize) -> usize
-    ensures { λ n. ⌜ n ≡ keepers [] 1 available (tableOf (now (table .entry))) ⌝ }
+// Where a run ends and how many bytes its AVPs take; or the index of the record that breaks a rule.
+enum Run {
+    Bad(usize),
+    Ends { index: usize, size: usize },
+}
+
+// Checks and measures the run that starts with record `from`: records of one depth and one parent, each group with all
+// its members. The run ends before a record that is less deep.
+fn check_run(table: &[u8], from: usize, depth: u8, parent: usize, available: usize) -> Run
+    ensures { λ run. ⌜ Checks available from depth parent (tableOf (now (table .entry))) run ⌝ }
 {
-    let mut kept: usize = 0;
-    let mut allowed: u8 = 1;
-    let mut last = [Record::TOP_LEVEL as usize; AVP::MOST_DEPTH + 1];
-    while kept < table.len() / Record::SIZE {
-        let at = kept * Record::SIZE;
+    let mut index: usize = from;
+    let mut size: usize = 0;
+    while index < table.len() / Record::SIZE {
+        let at = index * Record::SIZE;
         let r = Record::get(&table[at..at + Record::SIZE]);
-        if allowed < r.depth {
-            return kept;
+        if r.depth < depth {
+            return Run::Ends { index, size };
+        }
+        if depth < r.depth {
+            return Run::Bad(index);
         }
         if !keeps(r, available) {
-            return kept;
+            return Run::Bad(index);
         }
-        let depth = r.depth as usize;
-        if r.parent as usize != last[depth - 1] {
-            return kept;
+        if r.parent as usize != parent {
+            return Run::Bad(index);
         }
-        last[depth] = kept;
-        allowed = allowed_after(r);
-        kept += 1;
+        if r.kind == GROUPED {
+            let run = check_run(table, index + 1, depth + 1, index, available);
+            let Run::Ends {
+                index: next,
+                size: members,
+            } = run
+            else {
+                return run;
+            };
+            index = next;
+            size = capped(size + header_size(r) + members);
+        } else {
+            index += 1;
+            size = capped(size + r.length as usize + r.padding as usize);
+        }
     }
-    kept
+    Run::Ends { index, size }
+}
+
+/// The index of the first record that breaks a rule; or that none does, and the bytes of all AVPs, 2^24 at the most.
+pub enum Checked {
+    Bad(usize),
+    Good(usize),
+}
+
+/// Checks and measures a table whose records point into so many bytes.
+pub fn check(table: &[u8], available: usize) -> Checked
+    ensures { λ c. ⌜ c ≡ checkedOf available (tableOf (now (table .entry))) ⌝ }
+{
+    match check_run(table, 0, 1, Record::TOP_LEVEL as usize, available) {
+        Run::Bad(index) => Checked::Bad(index),
+        Run::Ends { index, size } => {
+            if index < table.len() / Record::SIZE {
+                return Checked::Bad(index);
+            }
+            Checked::Good(size)
+        }
+    }
 }

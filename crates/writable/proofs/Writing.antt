@@ -16,8 +16,8 @@ use Rattle.round_trip.specs.Rules.{Valid}
 use Rattle.round_trip.proofs.Rules.{Told, keepers-valid, keepers-most}
 use Rattle.round_trip.proofs.Lengths.{total-size}
 use Rattle.round_trip.proofs.Written.{writable-written}
-use Rattle.size.specs.Sizing.{ownSizes}
-use Rattle.size.proofs.Sizes.{sum-is}
+use Rattle.rules.specs.Checking.{ownSizes}
+use Rattle.rules.proofs.Sums.{sum-is}
 
 total-is : (f : Fields) (table pool : List ℕ) → Valid 1 (length pool) (tableOf table)
     → length (tableBytes f table pool) ≡ 20 + ownSizes (tableOf table)

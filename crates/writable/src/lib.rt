@@ -4,7 +4,7 @@ use header::Header;
 use record::Record;
 use record::written::Written;
 use refusal::Refusal;
-use size::Measured;
+use rules::Checked;
 ghost use Rattle.record.specs.Written.{answerOf};
 ghost use Rattle.writable.specs.Answers.{AnswerFor};
 
@@ -20,21 +20,20 @@ pub fn answer(code: u32, table: &[u8], available: usize, room: usize) -> Written
     if MOST_CODE < code {
         return Written::Refused(Refusal::BadHeader);
     }
-    let count = table.len() / Record::SIZE;
-    let remainder = table.len() % Record::SIZE;
-    let kept = rules::keepers(table, available);
-    if kept < count {
-        return Written::Refused(Refusal::BadTable(kept));
+    match rules::check(table, available) {
+        Checked::Bad(index) => Written::Refused(Refusal::BadTable(index)),
+        Checked::Good(size) => {
+            if table.len() % Record::SIZE != 0 {
+                return Written::Refused(Refusal::BadTable(table.len() / Record::SIZE));
+            }
+            if MOST_LENGTH - Header::SIZE < size {
+                return Written::Refused(Refusal::TooLong);
+            }
+            let total = Header::SIZE + size;
+            if room < total {
+                return Written::Refused(Refusal::NoRoom(total));
+            }
+            Written::Accepted(total)
+        }
     }
-    if remainder != 0 {
-        return Written::Refused(Refusal::BadTable(count));
-    }
-    let Measured::Size(size) = size::size_table(table, MOST_LENGTH - Header::SIZE) else {
-        return Written::Refused(Refusal::TooLong);
-    };
-    let total = Header::SIZE + size;
-    if room < total {
-        return Written::Refused(Refusal::NoRoom(total));
-    }
-    Written::Accepted(total)
 }
