@@ -203,6 +203,8 @@ void tandrekily_find(const uint8_t *input, size_t input_length, uint32_t code, u
 // length. Starting with TANDREKILY_HEADER and then with what it returned, it goes over the top level of the message.
 //   accepted: the outline, and the place past the AVP is returned; or not found at the end, and `place` is returned
 //   refused: NOT_TILED where no AVP is complete, and `place` is returned
+// It answers a place past the end as it answers the end. It looks at no byte before `place`, so it does not test the
+// header; `tandrekily_header` does. With a `message_length` under 20, TANDREKILY_HEADER is a place past the end.
 size_t tandrekily_next(const uint8_t *message, size_t message_length, size_t place, uint64_t outline[TANDREKILY_OUTLINE]);
 
 // ---- writing

@@ -216,7 +216,8 @@ pub fn find(input: &[u8], code: u32) -> OutlineNumbers {
     result
 }
 
-/// The second number is the place past the AVP.
+/// The second number is the place past the AVP. It is `place` where there is none: at the end, past it, or where no AVP
+/// is complete.
 pub fn next(message: &[u8], place: usize) -> (OutlineNumbers, usize) {
     let mut result = NO_OUTLINE;
     // SAFETY: `message` is a live slice, which is only read; `result` is 10 numbers of this frame. Any place is answered, one past

@@ -119,6 +119,7 @@ impl<'a> Reader<'a> {
     }
 
     /// Where the reader stands in the message: at the next AVP, at the end, or where no AVP is complete.
+    /// It never stands past the end.
     pub fn place(&self) -> usize {
         self.place
     }

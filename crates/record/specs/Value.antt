@@ -15,6 +15,6 @@ pub record Value : Type 0 where
 abbrev pub value : ℕ → ℕ → ℕ → Value
 value k e n = record { kind = k; errors = e; number = n }
 
--- text: RFC 3629 decides. Where it is ill-formed, the number is the length of its longest prefix that is not
+-- text: RFC 3629 decides. If the text is ill-formed, `number` is the length of its longest well-formed prefix
 unfoldable pub text : ℕ → List ℕ → Value
 text k s = cond (wellFormed s) (value k 0 0) (value unhandled dataValue (validUpTo s))

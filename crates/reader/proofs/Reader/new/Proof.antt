@@ -1,5 +1,7 @@
--- `Reader::new` meets its contract: a walk of its MIR, by hand. A `Reader` is made of the slice passed and 0, in the result's local.
--- A `&[u8]` is Copy, so what it owns is had twice: once for src at exit, and once inside the result, beside the facts of at.
+-- `Reader::new` meets its contract: a walk of its MIR, by hand. A `Reader` is made in the result's local, of the slice
+-- passed and 20, the place behind the header.
+-- A `&[u8]` is Copy, so what it owns is had twice: once for `message` at exit, and once
+-- inside the result, beside the facts of `place`.
 use mathlib.Core.Path.{refl}
 use Prim.Native.Nat.{ℕ}
 use mathlib.Core.List.{List, [], _∷_}
@@ -70,7 +72,7 @@ module _ {M : Type 1} (𝓤 : URA M) (H : Heap 𝓤) (A : Atoms 𝓤) (W : Given
       qed W ((‵ (flft κ q) ⊛ ‵ ftrue) ∷ ‵ (owns (ShrSlice (named 0) κ u8 ∷ []) (s, tt) at) ∷ []) ∵
       suffices ! _ (ends-at 𝓤 H A new.ended stayed (new.clauses 𝓤 H A mem run) W (((κ, tt), (q, tt), tt, (s, tt), at), tt) (T′.lowered made) made (tt, tt) (tt, tt)) $ says ! (refl, refl) $
       frame ! $ fsplit ! $ use1 W (‵ Own ⊛ ‵ Own) (shr-slice-copy 𝓤 H A W (named 0) κ u8 .twice s (v ∷ [])) $ split ! $ move ! (0 ∷ 2 ∷ []) $ fjoin ! $ frame ! $
-      -- [what src owns]: what the fields own together, of it and of at's facts, is what the struct owns
+      -- [what `message` owns]: what the fields own together, of it and of the place's facts, is what the struct owns
       nothing ! $ owned ! usize (Is usize) (uint-makes 𝓤 H A W w64) 20 _ (refl, lit< tt) $ fjoin ! $ move ! (1 ∷ 0 ∷ []) $ fjoin ! $ by ! (own-shut 𝓤 H A W (T.the-type α) (T′.the-laws α) (s, (20, tt)))
 
   module _ (C : Calls 𝓤 H) (Λ : Loops 𝓤 H) where
