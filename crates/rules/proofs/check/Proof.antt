@@ -6,6 +6,7 @@ use native.Mathlib.Omega.{arith}
 use lib.ListN.{drop}
 use denote.Ref.{now}
 use borrow.Author.Needs.{needs}
+use Rattle.record.specs.Parents.{topLevel}
 use Rattle.record.specs.Table.{tableOf}
 use Rattle.record.proofs.Tables.{table-length}
 use Rattle.rules.specs.Checking.{Walked, Ended, Checks}
@@ -14,16 +15,20 @@ use Rattle.rules.proofs.Answered.{is-bad, above, all}
 use Rattle.rules.proofs.check.Statement.{statement}
 use Rattle.rules.proofs.check.Tie as tie
 
--- where the run of the top level ended
+-- the run of the top level: its records have the mark
+top-level : (c : tie.After-check-run)
+    → let b = c .before .before in
+    Checks (b .args .available) 0 1 topLevel (tableOf (now (b .args .table))) (c .check-run .result)
+top-level c = c .check-run .ensures
+
+-- where it ended
 ended : (c : tie.After-known-told2)
     → let b = c .before .before .before .before .before in
     let ends = c .before .index2 .given .0 in
     let rs = tableOf (now (b .args .table)) in
     Walked (b .args .available) 1 [] 0 rs (ends .0) (ends .1 .0) × Ended 1 (drop (ends .0) rs)
 unfolding Checks
-ended c =
-    let run = c .before .before .before in
-    said-of _ _ _ _ _ (c .before .index2 .given .1) (run .check-run .ensures) .2 [] refl refl
+ended c = said-of _ _ _ _ _ (c .before .index2 .given .1) (top-level (c .before .before .before)) .2 [] refl refl
 
 returns : tie.Need-returns
 returns c =
@@ -34,8 +39,8 @@ returns c =
 returns-2 : tie.Need-returns-2
 unfolding Checks
 returns-2 c =
-    let run = c .before .before .before in
-    is-bad _ _ _ (said-of _ _ _ _ _ (c .before .index .given .1) (run .check-run .ensures) [] refl refl)
+    let bad = said-of _ _ _ _ _ (c .before .index .given .1) (top-level (c .before .before .before)) in
+    is-bad _ _ _ (bad [] refl refl)
 
 returns-3 : tie.Need-returns-3
 returns-3 c =
