@@ -22,7 +22,7 @@ use Rattle.rules.proofs.Checks.{stepped, not-stepped}
 use Rattle.rules.proofs.Entries.{next-part}
 use Rattle.rules.proofs.Records.{is-group, no-group}
 
--- ---- what a record puts itself, by its kind
+-- ---- what a record writes itself, by its kind
 
 pub group-size : (r : Record) → r .kind ≡ grouped → ownSize r ≡ headOf r
 unfolding ownSize
@@ -41,11 +41,11 @@ at-index table k {r} some read =
     sym (table-drop k table (omega arith)) ∙ next-part table k some read
     ∙ ap (λ (ts : List Record). r ∷ ts) (table-drop (k + 1) table (omega arith))
 
--- a record one level up is no parent of one that is not deeper
+-- a record is no parent of one that is not deeper; it is that of one that comes next and is one deeper
 same-parent : (depth d : ℕ) (passed : List ℕ) → 1 ≤ depth → d ≤ depth → parentAt (depth ∷ passed) d ≡ parentAt passed d
 same-parent depth d passed some low = rw (ne-eqb depth (d - 1) (λ z. omega arith)) refl
 
-pub own-parent : (depth : ℕ) (passed : List ℕ) → 1 ≤ depth → parentAt (depth ∷ passed) (depth + 1) ≡ length passed
+own-parent : (depth : ℕ) (passed : List ℕ) → 1 ≤ depth → parentAt (depth ∷ passed) (depth + 1) ≡ length passed
 own-parent depth passed some =
     let below : depth + 1 - 1 ≡ depth = omega arith in
     rw (ne-eqb (depth + 1) 1 (λ z. omega arith), below, eq-eqb depth depth refl) refl
@@ -77,11 +77,12 @@ none-walked n depth earlier start rs e =
       parents-stay = λ d h. refl;
     }
 
--- the next record stands there; it stands at the run's own depth; and it keeps all rules
+-- the next record
 pub record Stands (rs : List Record) (index : ℕ) (r : Record) : Type 0 where
   pub some : index < length rs
   pub here : drop index rs ≡ r ∷ drop (index + 1) rs
 
+-- it belongs to a run of this depth, and keeps all rules
 pub record Keeps (n depth : ℕ) (earlier : List ℕ) (r : Record) : Type 0 where
   pub level : r .depth ≡ depth
   pub own : keeps (r .depth) n r ≡ true
