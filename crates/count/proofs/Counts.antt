@@ -56,6 +56,7 @@ was-passing limit t others p =
       others-pass = shallow .1;
     }
 
+-- a run that fits, with its sums
 pub record Fitting (limit : ℕ) (t : Tree) (n k : ℕ) : Type 0 where
   pub limit-is : allowed limit ≡ true
   pub tiled : tiles t ≡ true
@@ -63,7 +64,6 @@ pub record Fitting (limit : ℕ) (t : Tree) (n k : ℕ) : Type 0 where
   pub records-is : n ≡ recordCount t
   pub tried-is : k ≡ tried t
 
--- and whose sums are these
 pub fitting : {limit : ℕ} {t : Tree} {others : List Test} (n k : ℕ) → Passing limit t others
     → sums t ≡ record { records = n; tried = k } → Fitting limit t n k
 fitting n k p e =

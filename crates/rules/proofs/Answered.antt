@@ -1,6 +1,6 @@
 -- Laws of `checkedOf`: the answer from where the run of a table's top level ended, and the facts from an answer.
-use Prim.Native.Nat.{ℕ, _+_, _≤_, _<_, min}
-use mathlib.Core.Path.{_≡_, refl, sym, ap, _∙_}
+use Prim.Native.Nat.{ℕ, _≤_, _<_, min}
+use mathlib.Core.Path.{_≡_, refl, ap}
 use mathlib.Core.Bool.{Bool, true, false, cond}
 use mathlib.Core.List.{List, [], _∷_}
 use native.Mathlib.Omega.{arith}
@@ -8,7 +8,7 @@ use lib.Dec.{ltb}
 use lib.ListN.{length, drop, length-drop, drop-of-length-le}
 use borrow.Author.Tests.{ltb-true, ltb-false, lt-ltb, le-ltb}
 use Rattle.record.specs.Record.{Record}
-use Rattle.rfc6733.specs.Writer.{keeps, keepers}
+use Rattle.rfc6733.specs.Writer.{keepers}
 use Rattle.round_trip.proofs.Rules.{keepers-most}
 use Rattle.rules.specs.declared.Checked.{Checked}
 use Rattle.rules.specs.declared.Checked.the-variants.{Bad, Good}

@@ -3,7 +3,7 @@
 use Prim.Native.Nat.{ℕ, _+_, _-_, _*_, _/_, _≤_, _<_, min}
 use mathlib.Core.Path.{_≡_, refl, sym, ap, subst, _∙_}
 use mathlib.Core.Bool.{true, false, _&&_}
-use mathlib.Core.List.{List, [], _∷_}
+use mathlib.Core.List.{List, _∷_}
 use native.Mathlib.Omega.{arith}
 use lib.ListN.{length, take, drop}
 use borrow.Author.Tests.{eq-eqb, ne-eqb}
@@ -13,7 +13,7 @@ use Rattle.record.specs.Parents.{parentAt}
 use Rattle.record.specs.Table.{entryAt, tableOf}
 use Rattle.rfc6733.specs.Writer.{isGroup, headOf, keeps, keepsParent, keepers, allowedAfter}
 use Rattle.record.proofs.Steps.{from}
-use Rattle.record.proofs.Tables.{table-drop, table-length}
+use Rattle.record.proofs.Tables.{table-drop}
 use Rattle.round_trip.specs.Rules.{Good}
 use Rattle.round_trip.proofs.Rules.{keeps-good, after-group, after-leaf}
 use Rattle.rules.specs.declared.Run.{Run}

@@ -1,6 +1,6 @@
 -- `check` meets its contract: the top level is the run from the first record on, at depth 1. Where it ends before the
 -- table does, a record of depth 0 stands there.
-use mathlib.Core.Path.{_≡_, refl, sym, _∙_}
+use mathlib.Core.Path.{refl}
 use mathlib.Core.List.{[]}
 use native.Mathlib.Omega.{arith}
 use lib.ListN.{drop}

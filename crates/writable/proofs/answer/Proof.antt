@@ -12,7 +12,7 @@ use Rattle.record.specs.Table.{tableOf}
 use Rattle.record.specs.Written.{answerOf}
 use Rattle.record.proofs.Tables.{table-length}
 use Rattle.rfc6733.specs.Writer.{keepers}
-use Rattle.rules.proofs.Answered.{Refuses, Takes, was-bad, was-good}
+use Rattle.rules.proofs.Answered.{Takes, was-bad, was-good}
 use Rattle.writable.proofs.Writing.{bad-header, bad-record, cut-off, too-long, no-room, fits}
 use Rattle.writable.proofs.answer.Statement.{statement}
 use Rattle.writable.proofs.answer.Tie as tie
