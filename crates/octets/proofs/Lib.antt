@@ -6,3 +6,4 @@ pub mod Runs
 pub mod Availability
 pub mod Held
 pub mod Turns
+pub mod Joining

@@ -12,3 +12,4 @@ pub mod RoundTrip
 pub mod ReadBack
 pub mod Bound
 pub mod Whole
+pub mod Joining

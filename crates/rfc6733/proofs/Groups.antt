@@ -3,6 +3,7 @@
 -- records.
 use Prim.Native.Nat.{ℕ, _+_, _-_, _^_, _≤_, _<_}
 use mathlib.Core.Path.{_≡_, refl, sym, ap, _∙_}
+use mathlib.Core.Bool.{cond}
 use mathlib.Core.Logic.{inl, inr}
 use mathlib.Core.List.{List, [], _∷_, _++_}
 use native.Mathlib.Omega.{arith}
@@ -18,7 +19,7 @@ use Rattle.record.proofs.Tables.{every-both}
 use Rattle.record.proofs.Parents.{with-count, with-own, with-append, ParentsFit, parents-count, parented-told}
 use Rattle.rfc6733.specs.Avp as avp
 use Rattle.rfc6733.specs.Dictionary.{Dictionary}
-use Rattle.rfc6733.specs.Records.{avps, recordOf, records, recordCount}
+use Rattle.rfc6733.specs.Records.{avps, groupValue, recordOf, records, recordCount}
 use Rattle.rfc6733.specs.Decoder.{runRecords}
 use Rattle.rfc6733.specs.Groups.{groups, memberRecords}
 use Rattle.rfc6733.proofs.RunRecords.{records-count}
@@ -56,6 +57,20 @@ pub member-made : {D : Dictionary} {a : List ℕ} {t e : Tree} {v : Value} → M
     → memberRecords D place depth parent first t
     ≡ withParent parent (recordOf place depth a v) ∷ memberRecords D (place + avp.headSize (avp.flags a)) (depth + 1) first (first + 1) e
 member-made m place depth parent first = rw (m .groups-are parent first, m .records-are place depth)
+
+-- a group's record, its members' where it tiles, and those of what follows it
+pub member-group : (D : Dictionary) (place depth parent first : ℕ) (a : List ℕ) (inner rest : Tree)
+    → memberRecords D place depth parent first (group a inner rest)
+    ≡ withParent parent (recordOf place depth a (groupValue D inner))
+    ∷ (cond (tiles inner) (memberRecords D (place + avp.headSize (avp.flags a)) (depth + 1) first (first + 1) inner) []
+    ++ memberRecords D (place + length a) depth parent (first + 1 + cond (tiles inner) (recordCount inner) 0) rest)
+member-group D place depth parent first a inner rest =
+    let p = place + avp.headSize (avp.flags a) in
+    let same = groups-count first (first + 1) inner ∙ sym (records-count D p (depth + 1) inner) in
+    elim (decide (tiles inner)) [
+      | inl e ↦ rw (e, with-append (groups first (first + 1) inner) _ (records D p (depth + 1) inner) _ same)
+      | inr e ↦ rw e
+    ]
 
 -- ---- walking back
 
@@ -166,6 +181,13 @@ parented-members D place t = ap (λ (ps : List ℕ). withParents ps (records D p
 
 -- of the records that a decoder leaves
 module _ (D : Dictionary) (place : ℕ) (s : List ℕ) where
+  pub run-members : runRecords D place s ≡ memberRecords D place 1 topLevel 0 (tree (avps D) s)
+  unfolding runRecords
+  run-members = parented-members D place (tree (avps D) s)
+
+  pub run-count : length (runRecords D place s) ≡ recordCount (tree (avps D) s)
+  run-count = ap length run-members ∙ member-count D place 1 topLevel 0 (tree (avps D) s)
+
   pub run-groups : ownParents (runRecords D place s) ≡ groups topLevel 0 (tree (avps D) s)
   unfolding runRecords parented
   run-groups =

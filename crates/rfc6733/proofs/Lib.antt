@@ -22,3 +22,6 @@ pub mod MarkedMessages
 pub mod KindsRead
 pub mod Times
 pub mod Breaks
+pub mod Fragments
+pub mod Joining
+pub mod JoinedMessages

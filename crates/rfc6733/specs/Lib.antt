@@ -15,3 +15,4 @@ pub mod Broken
 pub mod Dump
 pub mod Marked
 pub mod Extremal
+pub mod Joining

@@ -2,20 +2,18 @@
 -- the table's records of depth 1, a group's data being its members' bytes. A forest that keeps the rules is read as a run of its AVPs,
 -- whichever of them the dictionary enters: the first is read back, and what follows it is the bytes of the rest.
 use Prim.Native.Nat.{ℕ, _^_, _<_}
-use mathlib.Core.Path.{_≡_, refl, sym, ap, _∙_}
+use mathlib.Core.Path.{_≡_, refl, _∙_}
 use mathlib.Core.Bool.{true}
 use mathlib.Core.Logic.{inl, inr}
 use mathlib.Core.List.{List, _∷_, _++_}
 use native.Mathlib.Omega.{arith}
 use lib.ListN.{length, length-append}
-use lib.Seq.{take-at, drop-at}
 use Rattle.octets.specs.Octets.{Bytes}
-use Rattle.octets.specs.Run.{item, after, tree, tiles}
-use Rattle.octets.proofs.Numbers.{be-front}
-use Rattle.octets.proofs.Runs.{tree-none, tree-step}
+use Rattle.octets.specs.Run.{tree, tiles}
+use Rattle.octets.proofs.Runs.{tree-none}
 use Rattle.refusal.specs.Answer.{accepted, passes}
 use Rattle.rfc6733.specs.Header.{messageLength, headerRefusals}
-use Rattle.rfc6733.specs.Avp.{flags, avpLength, headSize, dataSize, avpSize, complete, Exact}
+use Rattle.rfc6733.specs.Avp.{Exact}
 use Rattle.rfc6733.specs.Dictionary.{Dictionary}
 use Rattle.rfc6733.specs.Records.{avps}
 use Rattle.rfc6733.specs.Decoder.{messageBody}
@@ -23,8 +21,7 @@ use Rattle.record.specs.Forest as table
 use Rattle.record.specs.Forest.{Forest, none, forest, flat}
 use Rattle.record.specs.Table.{tableOf, ofDepth, AllFit}
 use Rattle.rfc6733.specs.Writer.{Fields, avpBytes, forestBytes, bodyOf, tableBytes, written}
-use Rattle.rfc6733.proofs.Complete.{complete-whole, whole-complete}
-use Rattle.rfc6733.proofs.Items.{sound}
+use Rattle.rfc6733.proofs.Joining.{avp-before}
 use Rattle.rfc6733.proofs.Messages.{message-read}
 use Rattle.refusal.proofs.Tests.{decide}
 use Rattle.round_trip.specs.Forests.{size}
@@ -39,34 +36,10 @@ use Rattle.round_trip.proofs.Written.{written-writable}
 
 -- ---- an AVP before other bytes
 
-module _ (D : Dictionary) (a x : List ℕ) (exact : Exact a) where
-  record Before : Type 0 where
-    is-complete : complete (a ++ x) ≡ true
-    item-is : item (avps D) (a ++ x) ≡ a
-    after-is : after (avps D) (a ++ x) ≡ x
-
-  before : Before
-  unfolding item after avpSize dataSize
-  before =
-      let w = complete-whole a (exact .whole) in
-      let s = a ++ x in
-      let long = length-append a x in
-      let f : flags s ≡ flags a = be-front 1 a x 4 (omega arith) in
-      let l : avpLength s ≡ avpLength a = be-front 3 a x 5 (omega arith) in
-      let h = ap headSize f in
-      let z : avpSize s ≡ length a = rw (l, h) (exact .size-is) in
-      record {
-        is-complete = whole-complete s (omega arith);
-        item-is = take-at a x (avpSize s) (sym z);
-        after-is = drop-at a x (avpSize s) (sym z);
-      }
-
-  one-back : 0 < length a
-      → (tiles (tree (avps D) (a ++ x)) ≡ tiles (tree (avps D) x)) × (tops (tree (avps D) (a ++ x)) ≡ topOf a ∷ tops (tree (avps D) x))
-  one-back some =
-      let w = before in
-      rw (tree-step (avps D) (sound (avps D .nested)) (a ++ x) (omega (arith, length-append a x)), w .is-complete, w .item-is, w .after-is)
-      (elim (decide (avps D .nested a)) [ inl e ↦ rw e (refl, refl) | inr e ↦ rw e (refl, refl) ])
+one-back : (D : Dictionary) (a x : List ℕ) → Exact a
+    → (tiles (tree (avps D) (a ++ x)) ≡ tiles (tree (avps D) x)) × (tops (tree (avps D) (a ++ x)) ≡ topOf a ∷ tops (tree (avps D) x))
+one-back D a x exact =
+    rw (avp-before D a x exact) (elim (decide (avps D .nested a)) [ inl e ↦ rw e (refl, refl) | inr e ↦ rw e (refl, refl) ])
 
 -- ---- a forest
 
@@ -86,7 +59,7 @@ back D pool (table.node r i t) k fits short =
     let e = exact-back (r .depth) (length pool) r inside (k .0) (fits .0) (b .padded-is) (omega arith) in
     let q = top-back (r .depth) (length pool) r inside (k .0) (fits .0) (b .padded-is) (omega arith) in
     let rest = back D pool t (k .2) (fit-after (flat i) (flat t) (fits .1)) (omega arith) in
-    let o = one-back D (avpBytes r inside) (forestBytes pool t) e (omega arith) in
+    let o = one-back D (avpBytes r inside) (forestBytes pool t) e in
     record { tiled = o .0 ∙ rest .tiled; same = o .1 ∙ rw (q, rest .same) }
 
 -- ---- a message
