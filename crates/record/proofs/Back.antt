@@ -22,7 +22,7 @@ pub record Whole (rs : List Record) : Type 0 where
 
 -- ---- read back
 
-record-back : (r : Record) (more : List ℕ) → Fits r → Valued r → recordAt (recordBytes r ++ more) ≡ r
+pub record-back : (r : Record) (more : List ℕ) → Fits r → Valued r → recordAt (recordBytes r ++ more) ≡ r
 unfolding recordAt recordBytes bare
 record-back r more f v =
     let g = fit-at (recordLayout .sizes) (recordLayout .numbers (bare r)) f in

@@ -11,7 +11,7 @@ use borrow.Author.Tests.{le-leb, lt-leb}
 use Rattle.octets.specs.Octets.{octets, pack, over}
 use Rattle.octets.proofs.Lists.{all-put, none-put, all-bytes-put}
 use Rattle.record.specs.Record.{Record, recordSize, layout, recordBytes}
-use Rattle.record.specs.Store.{put, putFound}
+use Rattle.record.specs.Store.{put, putFound, putPlaceAndParent}
 
 module _ (r : Record) (s : List ℕ) where
   pub no-room : length s < recordSize → (false ≡ leb recordSize (length s)) × (s ≡ put r s)
@@ -33,6 +33,16 @@ module _ (kind errors value : ℕ) (s : List ℕ) where
       → sets (sets (sets s 17 (octets 1 kind)) 18 (octets 1 errors)) 24 (octets 8 value) ≡ putFound kind errors value s
   unfolding putFound
   found-put room = rw (le-leb _ _ room)
+
+-- and a place and a parent
+module _ (place parent : ℕ) (s : List ℕ) where
+  pub nothing-moved : length s < recordSize → s ≡ putPlaceAndParent place parent s
+  unfolding putPlaceAndParent
+  nothing-moved few = rw (lt-leb _ _ few)
+
+  pub place-and-parent-put : recordSize ≤ length s → sets (sets s 12 (octets 4 place)) 32 (octets 4 parent) ≡ putPlaceAndParent place parent s
+  unfolding putPlaceAndParent
+  place-and-parent-put room = rw (le-leb _ _ room)
 
 -- what is put where there is room
 pub put-with-room : (r : Record) (s : List ℕ) → recordSize ≤ length s → put r s ≡ over (recordBytes r) s

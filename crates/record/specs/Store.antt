@@ -26,6 +26,11 @@ unfoldable pub putFound : ℕ → ℕ → ℕ → List ℕ → List ℕ
 putFound kind errors value store =
     cond (leb recordSize (length store)) (sets (sets (sets store 17 (octets 1 kind)) 18 (octets 1 errors)) 24 (octets 8 value)) store
 
+-- another place and another parent in the record at the front, where there is one
+unfoldable pub putPlaceAndParent : ℕ → ℕ → List ℕ → List ℕ
+putPlaceAndParent place parent table =
+    cond (leb recordSize (length table)) (sets (sets table 12 (octets 4 place)) 32 (octets 4 parent)) table
+
 -- the records and zero to its last byte where they were accepted, and as lent where not
 unfoldable pub stored : {A : Type 0} → Answer A → List Record → List ℕ → List ℕ
 stored (accepted x) rs store = laid rs ++ replicate (length store - length (laid rs)) 0

@@ -13,7 +13,7 @@ ghost use lib.Dec.{leb};
 ghost use Rattle.octets.specs.Octets.{be, octets, pack, over};
 ghost use Rattle.record.specs.Record.{recordSize, layout, recordAt};
 ghost use Rattle.record.specs.Table.{entryAt};
-ghost use Rattle.record.specs.Store.{put, putFound};
+ghost use Rattle.record.specs.Store.{put, putFound, putPlaceAndParent};
 
 pub struct Record {
     pub code: u32,
@@ -148,6 +148,17 @@ impl Record {
         put_u8(store, 17, kind);
         put_u8(store, 18, errors);
         put_u64(store, 24, value);
+    }
+
+    /// Puts another place and another parent into the record at the front of a table, if there is one.
+    pub fn put_place_and_parent(table: &mut [u8], place: u32, parent: u32)
+        ensures { λ _. ⌜ now (table .exit) ≡ putPlaceAndParent place parent (now (table .entry)) ⌝ }
+    {
+        if table.len() < Record::SIZE {
+            return;
+        }
+        put_u32(table, 12, place);
+        put_u32(table, 32, parent);
     }
 
     // A table that is shorter than a record, with 0 for each byte that is absent.

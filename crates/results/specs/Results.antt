@@ -21,6 +21,10 @@ result n a c h = n ∷ a ∷ c .errors ∷ c .records ∷ c .tried ∷ c .length
 abbrev pub bytesAlone : ℕ → Counts
 bytesAlone n = record { errors = 0; records = 0; tried = 0; length = n }
 
+-- so many records, and nothing else
+abbrev pub recordsAlone : ℕ → Counts
+recordsAlone n = record { errors = 0; records = n; tried = 0; length = 0 }
+
 abbrev pub noHeader : Header
 noHeader = record { version = 0; length = 0; flags = 0; code = 0; appId = 0; hopId = 0; endId = 0 }
 
@@ -41,6 +45,11 @@ avpResult (refused why) = refusal why
 unfoldable pub writtenResult : Answer ℕ → List ℕ
 writtenResult (accepted total) = result 0 0 (bytesAlone total) noHeader
 writtenResult (refused why) = refusal why
+
+-- a table that was moved: its records
+unfoldable pub shiftedResult : Answer ℕ → List ℕ
+shiftedResult (accepted records) = result 0 0 (recordsAlone records) noHeader
+shiftedResult (refused why) = refusal why
 
 -- ---- an outline
 

@@ -10,6 +10,7 @@ use header::Parsed;
 use record::outline::Outline;
 use record::written::Written;
 use refusal::Refusal;
+use rules::shifting::Shifted;
 use steps::Found;
 use unit_value::Ordering;
 ghost use mathlib.Core.Path.{_≡_};
@@ -20,7 +21,8 @@ ghost use Rattle.avps.specs.Answers.{countsAs};
 ghost use Rattle.diameter.specs.Answers.{answerOf};
 ghost use Rattle.steps.specs.Steps as steps;
 ghost use Rattle.record.specs.Written as written;
-ghost use Rattle.results.specs.Results.{result, refusal, messageResult, avpResult, writtenResult, outlineResult, foundResult, signOf};
+ghost use Rattle.rules.specs.Shifting as shifting;
+ghost use Rattle.results.specs.Results.{result, refusal, messageResult, avpResult, writtenResult, shiftedResult, outlineResult, foundResult, signOf};
 
 /// How many numbers a result has. include/tandrekily.h names them.
 pub const RESULT: usize = 13;
@@ -143,6 +145,24 @@ pub fn of_written(w: Written) -> [u64; RESULT]
             lay(0, 0, counts, NO_HEADER)
         }
         Written::Refused(why) => refused(why),
+    }
+}
+
+/// What moving a table answers: its records.
+pub fn of_shifted(s: Shifted) -> [u64; RESULT]
+    ensures { λ r. ⌜ r ≡ shiftedResult (shifting.answerOf s) ⌝ }
+{
+    match s {
+        Shifted::Accepted(records) => {
+            let counts = Counts {
+                errors: 0,
+                records,
+                tried: 0,
+                length: 0,
+            };
+            lay(0, 0, counts, NO_HEADER)
+        }
+        Shifted::Refused(why) => refused(why),
     }
 }
 

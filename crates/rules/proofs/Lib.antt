@@ -4,3 +4,7 @@ pub mod Records
 pub mod Runs
 pub mod Answered
 pub mod Sums
+pub mod Moves
+pub mod Rows
+pub mod Laid
+pub mod AnswerOf

@@ -1,6 +1,8 @@
 // The rules of a table (docs/FORMAT.md, 8.3): which record is the first to break one. If none does, how long AVPs get.
 // The size of a group with all its members is worked out by recursion; so the members' depth and parent are at hand.
 // This crate looks at records alone: it knows how many bytes their places may point into, and none of those bytes.
+pub mod shifting;
+
 use avp::AVP;
 use record::Record;
 use record::kinds::GROUPED;

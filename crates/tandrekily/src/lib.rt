@@ -6,6 +6,7 @@ use attribute::Reading;
 use header::Header;
 use results::OUTLINE;
 use results::RESULT;
+use rules::shifting;
 use unit_value::Compared;
 use unit_value::UnitValue;
 use utf8::Utf8;
@@ -16,7 +17,8 @@ ghost use Rattle.rfc6733.specs.Decoder.{headerAlone};
 ghost use Rattle.rfc6733.specs.Search.{sought};
 ghost use Rattle.rfc6733.specs.Signed.{signed, unixSeconds};
 ghost use Rattle.steps.specs.Steps.{stepAt};
-ghost use Rattle.results.specs.Results.{messageResult, avpResult, foundResult};
+ghost use Rattle.rules.specs.Shifting.{shiftAnswer, tableAfter};
+ghost use Rattle.results.specs.Results.{messageResult, avpResult, shiftedResult, foundResult};
 ghost use Rattle.tandrekily.specs.Asked.{readingOf, stepResult, messageAsked, avpAsked, messageAskedBy, avpAskedBy, writeResult, messageStore, avpStore, messageStoreBy, avpStoreBy, writeOutput, numberShown, orderShown, comparedGiven};
 
 fn reading_of(rfc: bool) -> Reading
@@ -141,6 +143,20 @@ pub extern "C" fn tandrekily_write(
         end_id,
     };
     *result = results::of_written(writer::write(fields, table, pool, out));
+}
+
+/// Moves a table to where it stands behind another run, of so many bytes (a message's are its length less 20) and records.
+#[no_mangle]
+pub extern "C" fn tandrekily_shift(
+    table: &mut [u8],
+    bytes: usize,
+    records: usize,
+    result: &mut [u64; RESULT],
+)
+    ensures result { λ _. ⌜ now (result .exit) ≡ shiftedResult (shiftAnswer bytes records (now (table .entry))) ⌝ }
+    ensures table { λ _. ⌜ now (table .exit) ≡ tableAfter bytes records (shiftAnswer bytes records (now (table .entry))) (now (table .entry)) ⌝ }
+{
+    *result = results::of_shifted(shifting::shift(table, bytes, records));
 }
 
 /// Is the text well-formed UTF-8 (RFC 3629)?
