@@ -13,3 +13,7 @@ pub mod Times
 pub mod Broken
 pub mod Packets
 pub mod Parents
+mod Tables
+pub mod Joining
+pub mod JoinedRefusals
+pub mod JoinedRuns

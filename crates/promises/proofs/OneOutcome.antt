@@ -15,7 +15,7 @@ use Rattle.record.specs.Record.{Record}
 use Rattle.reader.specs.declared.Reader.{Reader}
 use Rattle.writer.specs.declared.Fields.{Fields}
 use Rattle.radius_writer.specs.declared.Fields as packet
-use Rattle.promises.proofs.OneOutcome.Calls.{Slice, PutWord, PutLong, Copy, PutPadding, PutHeader, PutHead, RecordPut, PutFound, Clear, ParseAvps, Parse, ParseAvp, ParseBy, ParseAvpBy, Dump, Write, TandrekilyMessage, TandrekilyHeader, TandrekilyAvp, TandrekilyMessageBy, TandrekilyAvpBy, TandrekilyFind, TandrekilyNext, TandrekilyWrite, TandrekilyCompare, ParseAttributes, ParsePacket, WritePacket, TandrekilyRadius, TandrekilyRadiusWrite}
+use Rattle.promises.proofs.OneOutcome.Calls.{Slice, PutWord, PutLong, Copy, PutPadding, PutHeader, PutHead, RecordPut, PutFound, PutPlaceAndParent, Clear, ParseAvps, Parse, ParseAvp, ParseBy, ParseAvpBy, Dump, Write, Shift, TandrekilyMessage, TandrekilyHeader, TandrekilyAvp, TandrekilyMessageBy, TandrekilyAvpBy, TandrekilyFind, TandrekilyNext, TandrekilyWrite, TandrekilyShift, TandrekilyCompare, ParseAttributes, ParsePacket, WritePacket, TandrekilyRadius, TandrekilyRadiusWrite}
 use Rattle.promises.proofs.OneOutcome.ByHand.{ReaderNew, ReaderNext, ReaderFind}
 use Rattle.octets.proofs.be_u16.Reads as be-u16
 use Rattle.octets.proofs.be_u24.Reads as be-u24
@@ -102,6 +102,7 @@ use Rattle.results.proofs.of_message.Reads as of-message
 use Rattle.results.proofs.of_header.Reads as of-header
 use Rattle.results.proofs.of_avp.Reads as of-avp
 use Rattle.results.proofs.of_written.Reads as of-written
+use Rattle.results.proofs.of_shifted.Reads as of-shifted
 use Rattle.results.proofs.of_found.Reads as of-found
 use Rattle.results.proofs.sign_of.Reads as sign-of
 use Rattle.results.proofs.packets.lay.Reads as packet-lay
@@ -122,6 +123,7 @@ use Rattle.count.proofs.AnswerOf as count-answers
 use Rattle.avps.proofs.AnswerOf as avps-answers
 use Rattle.diameter.proofs.AnswerOf as diameter-answers
 use Rattle.record.proofs.AnswerOf as writer-answers
+use Rattle.rules.proofs.AnswerOf as shift-answers
 use Rattle.radius_attributes.proofs.AnswerOf as attributes-answers
 use Rattle.writable.proofs.OneAnswer.{one-answer}
 use Rattle.radius.proofs.AnswerOf as packet-answers
@@ -383,6 +385,10 @@ put-found-one : (κs : Lfts 1) (store : Slice) (kind errors value : ℕ) (after 
     → PutFound κs store kind errors value after′ → now after ≡ now after′
 put-found-one κs store kind errors value after after′ p q = p ∙ sym q
 
+put-place-and-parent-one : (κs : Lfts 1) (table : Slice) (place parent : ℕ) (after after′ : Slice)
+    → PutPlaceAndParent κs table place parent after → PutPlaceAndParent κs table place parent after′ → now after ≡ now after′
+put-place-and-parent-one κs table place parent after after′ p q = p ∙ sym q
+
 clear-one : (κs : Lfts 1) (store after after′ : Slice) → Clear κs store after → Clear κs store after′ → now after ≡ now after′
 clear-one κs store after after′ p q = p ∙ sym q
 
@@ -483,6 +489,13 @@ record-header-size-one κs a r r′ s p q = p ∙ sym q
 check-table-one : Single check-table.Post
 check-table-one κs a r r′ s p q = p ∙ sym q
 
+shift-one : (κs : Lfts 1) (table : Slice) (bytes records : ℕ) → Settled (Shift κs table bytes records)
+shift-one κs table bytes records r r′ after after′ p q =
+    let e = shift-answers.answer-of-injective r r′ (p .0 ∙ sym (q .0)) in
+    let at-exit = p .1 in
+    let at-exit′ = q .1 in
+    (e, cc)
+
 -- ---- writable, body, heads and writer
 
 writable-answer-one : Single writable-answer.Post
@@ -561,6 +574,9 @@ of-avp-one κs a r r′ s p q = p ∙ sym q
 of-written-one : Single of-written.Post
 of-written-one κs a r r′ s p q = p ∙ sym q
 
+of-shifted-one : Single of-shifted.Post
+of-shifted-one κs a r r′ s p q = p ∙ sym q
+
 of-found-one : Single of-found.Post
 of-found-one κs a r r′ s p q = p ∙ sym q
 
@@ -608,6 +624,9 @@ tandrekily-next-one κs message place result r r′ after after′ p q = (p .0 �
 tandrekily-write-one : (κs : Lfts 4) (flags code appId hopId endId : ℕ) (table pool out result : Slice)
     → BothSettled (TandrekilyWrite κs flags code appId hopId endId table pool out result)
 tandrekily-write-one κs flags code appId hopId endId table pool out result _ _ _ _ p q = (p .1 ∙ sym (q .1), p .0 ∙ sym (q .0))
+
+tandrekily-shift-one : (κs : Lfts 2) (table : Slice) (bytes records : ℕ) (result : Slice) → BothSettled (TandrekilyShift κs table bytes records result)
+tandrekily-shift-one κs table bytes records result _ _ _ _ p q = (p .1 ∙ sym (q .1), p .0 ∙ sym (q .0))
 
 tandrekily-is-utf8-one : Single tandrekily-is-utf8.Post
 tandrekily-is-utf8-one κs a r r′ s p q = p ∙ sym q

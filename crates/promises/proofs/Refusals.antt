@@ -1,5 +1,5 @@
--- Demand 1 of the functions themselves: a refusal changes no lent byte. Each contract says that the store or the output is what the
--- definition leaves of it (`stored`, `output`), and that is what was lent wherever the answer is a refusal.
+-- Demand 1 of the functions themselves: a refusal changes no lent byte. Each contract says that the store, the output or the table is what
+-- the definition leaves of it (`stored`, `output`, `tableAfter`), and that is what was lent wherever the answer is a refusal.
 use Prim.Native.Nat.{ℕ, _≤_}
 use mathlib.Core.Path.{_≡_, refl, _∙_}
 use mathlib.Core.Bool.{Bool}
@@ -22,16 +22,19 @@ use Rattle.diameter.specs.Answers as diameter-answers
 use Rattle.writer.specs.declared.Fields.{Fields}
 use Rattle.record.specs.declared.written.Written.the-variants as writer
 use Rattle.record.specs.Written as writer-answers
+use Rattle.rules.specs.declared.shifting.Shifted.the-variants as shifting
+use Rattle.rules.specs.Shifting as shifting-answers
+use Rattle.rules.specs.Shifting.{tableAfter}
 use Rattle.unit_value.specs.declared.Ordering.{Ordering}
 use Rattle.rfc2865.specs.Packet.{Packet}
 use Rattle.radius.specs.declared.Decoded.the-variants as radius
 use Rattle.radius.specs.Answers as radius-answers
 use Rattle.radius_writer.specs.declared.Fields as packet
 use Rattle.results.specs.Packets as packets
-use Rattle.results.specs.Results.{messageResult, avpResult, writtenResult}
+use Rattle.results.specs.Results.{messageResult, avpResult, writtenResult, shiftedResult}
 use Rattle.tandrekily.specs.Packets.{authenticatorAfter}
 use Rattle.tandrekily.specs.Asked.{numberShown, orderShown}
-use Rattle.promises.proofs.OneOutcome.Calls.{Slice, Parse, ParseAvp, ParseBy, ParseAvpBy, Write, TandrekilyMessage, TandrekilyAvp, TandrekilyMessageBy, TandrekilyAvpBy, TandrekilyWrite, TandrekilyCompare, ParsePacket, WritePacket, TandrekilyRadius, TandrekilyRadiusWrite}
+use Rattle.promises.proofs.OneOutcome.Calls.{Slice, Parse, ParseAvp, ParseBy, ParseAvpBy, Write, Shift, TandrekilyMessage, TandrekilyAvp, TandrekilyMessageBy, TandrekilyAvpBy, TandrekilyWrite, TandrekilyShift, TandrekilyCompare, ParsePacket, WritePacket, TandrekilyRadius, TandrekilyRadiusWrite}
 
 -- ---- in Rattle: the answer is a refusal
 
@@ -69,6 +72,11 @@ pub write-packet-refusal-changes-nothing : (κs : Lfts 3) (fields : packet.Field
     → WritePacket κs fields table pool out (writer.Refused why) out′ → now out′ ≡ now out
 unfolding writer-answers.answerOf output
 write-packet-refusal-changes-nothing κs fields table pool out why out′ p = p .1
+
+pub shift-refusal-changes-nothing : (κs : Lfts 1) (table : Slice) (bytes records : ℕ) (why : Refusal) (table′ : Slice)
+    → Shift κs table bytes records (shifting.Refused why) table′ → now table′ ≡ now table
+unfolding shifting-answers.answerOf tableAfter
+shift-refusal-changes-nothing κs table bytes records why table′ p = p .1
 
 -- ---- in the library: the number, the first of the result, is not 0
 
@@ -114,6 +122,15 @@ pub tandrekily-write-refusal-changes-nothing : (κs : Lfts 4) (flags code appId 
     → TandrekilyWrite κs flags code appId hopId endId table pool out result out′ result′ → 1 ≤ number (now result′) → now out′ ≡ now out
 tandrekily-write-refusal-changes-nothing κs flags code appId hopId endId table pool out result out′ result′ p h =
     p .1 ∙ written-out _ _ _ (rw (p .0) at h)
+
+moved-table : (bytes records : ℕ) (x : Answer ℕ) (table : List ℕ) → 1 ≤ number (shiftedResult x) → tableAfter bytes records x table ≡ table
+unfolding shiftedResult tableAfter
+moved-table bytes records x table =
+    lent-unless-0 shiftedResult (λ y. tableAfter bytes records y table) table (λ n. refl) (λ why. refl) x
+
+pub tandrekily-shift-refusal-changes-nothing : (κs : Lfts 2) (table : Slice) (bytes records : ℕ) (result table′ result′ : Slice)
+    → TandrekilyShift κs table bytes records result table′ result′ → 1 ≤ number (now result′) → now table′ ≡ now table
+tandrekily-shift-refusal-changes-nothing κs table bytes records result table′ result′ p h = p .1 ∙ moved-table _ _ _ _ (rw (p .0) at h)
 
 -- a comparison's number is its result
 order-lent : (x : Answer Ordering) (lent : ℤ) → 1 ≤ numberShown x → orderShown x lent ≡ lent

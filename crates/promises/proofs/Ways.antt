@@ -6,6 +6,7 @@ use mathlib.Core.Bool.{true, false}
 use mathlib.Core.List.{List, _++_}
 use contract.Lifetimes.{Lfts}
 use denote.Ref.{now}
+use Rattle.octets.specs.Octets.{Bytes}
 use Rattle.refusal.specs.Answer.{Refusal}
 use Rattle.refusal.proofs.Answers.{among}
 use Rattle.record.specs.Store.{room}
@@ -52,6 +53,15 @@ Known (edition n) = isEdition n ≡ true
 abbrev pub Decode : Way → Lfts 2 → ℕ → Slice → Slice → Decoded → Slice → Type 0
 Decode (reading r) κs limit input store d store′ = Parse κs r limit input store d store′
 Decode (edition n) κs limit input store d store′ = ParseBy κs n limit input store d store′
+
+-- a call that answered r, of a slice that holds bytes: every slice does, but a theorem over calls stands outside of them (RoundTrip)
+pub record Call (way : Way) (limit : ℕ) (r : Decoded) : Type 0 where
+  pub lifetimes : Lfts 2
+  pub input : Slice
+  pub store : Slice
+  pub store′ : Slice
+  pub answered : Decode way lifetimes limit input store r store′
+  pub bytes : Bytes (now input)
 
 -- what it says, by its dictionary
 pub record Decodes (D : Dictionary) (limit : ℕ) (input store : List ℕ) (d : Decoded) (store′ : List ℕ) : Type 0 where

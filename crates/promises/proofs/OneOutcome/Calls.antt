@@ -21,6 +21,7 @@ use Rattle.heads.proofs.put_header.Reads as put-header
 use Rattle.heads.proofs.put_head.Reads as put-head
 use Rattle.record.proofs.Record.put.Reads as put
 use Rattle.record.proofs.Record.put_found.Reads as put-found
+use Rattle.record.proofs.Record.put_place_and_parent.Reads as put-place-and-parent
 use Rattle.record.proofs.clear.Reads as clear
 use Rattle.avps.specs.declared.Filled.{Filled}
 use Rattle.avps.proofs.parse_avps.Reads as parse-avps
@@ -39,6 +40,8 @@ use Rattle.reader.proofs.find.Reads as find
 use Rattle.writer.specs.declared.Fields.{Fields}
 use Rattle.record.specs.declared.written.Written.{Written}
 use Rattle.writer.proofs.write.Reads as write
+use Rattle.rules.specs.declared.shifting.Shifted.{Shifted}
+use Rattle.rules.proofs.shifting.shift.Reads as shift
 use Rattle.radius_attributes.specs.declared.Filled as attributes
 use Rattle.radius_attributes.proofs.parse_attributes.Reads as parse-attributes
 use Rattle.radius.specs.declared.Parsed.{Parsed}
@@ -56,6 +59,7 @@ use Rattle.tandrekily.proofs.tandrekily_compare.Reads as tandrekily-compare
 use Rattle.tandrekily.proofs.tandrekily_find.Reads as tandrekily-find
 use Rattle.tandrekily.proofs.tandrekily_next.Reads as tandrekily-next
 use Rattle.tandrekily.proofs.tandrekily_write.Reads as tandrekily-write
+use Rattle.tandrekily.proofs.tandrekily_shift.Reads as tandrekily-shift
 use Rattle.tandrekily.proofs.tandrekily_is_utf8.Reads as tandrekily-is-utf8
 use Rattle.tandrekily.proofs.tandrekily_utf8.Reads as tandrekily-utf8
 use Rattle.tandrekily.proofs.tandrekily_unix_seconds.Reads as tandrekily-unix-seconds
@@ -95,6 +99,10 @@ abbrev pub PutFound : Lfts 1 → Slice → ℕ → ℕ → ℕ → Slice → Typ
 PutFound κs store kind errors value store′ =
     put-found.Post κs (store, (kind, (errors, (value, tt)))) tt (store′, (kind, (errors, (value, tt))))
 
+abbrev pub PutPlaceAndParent : Lfts 1 → Slice → ℕ → ℕ → Slice → Type 0
+PutPlaceAndParent κs table place parent table′ =
+    put-place-and-parent.Post κs (table, (place, (parent, tt))) tt (table′, (place, (parent, tt)))
+
 abbrev pub Clear : Lfts 1 → Slice → Slice → Type 0
 Clear κs store store′ = clear.Post κs (store, tt) tt (store′, tt)
 
@@ -131,6 +139,9 @@ Dump κs input out r out′ = dump.Post κs (input, (out, tt)) r (input, (out′
 abbrev pub Write : Lfts 3 → Fields → Slice → Slice → Slice → Written → Slice → Type 0
 Write κs fields table pool out r out′ = write.Post κs (fields, (table, (pool, (out, tt)))) r (fields, (table, (pool, (out′, tt))))
 
+abbrev pub Shift : Lfts 1 → Slice → ℕ → ℕ → Shifted → Slice → Type 0
+Shift κs table bytes records r table′ = shift.Post κs (table, (bytes, (records, tt))) r (table′, (bytes, (records, tt)))
+
 abbrev pub TandrekilyMessage : Lfts 3 → Bool → ℕ → Slice → Slice → Slice → Slice → Slice → Type 0
 TandrekilyMessage κs rfc limit input store result store′ result′ =
     tandrekily-message.Post κs (rfc, (limit, (input, (store, (result, tt))))) tt (rfc, (limit, (input, (store′, (result′, tt)))))
@@ -166,6 +177,10 @@ abbrev pub TandrekilyWrite : Lfts 4 → ℕ → ℕ → ℕ → ℕ → ℕ → 
 TandrekilyWrite κs flags code appId hopId endId table pool out result out′ result′ =
     tandrekily-write.Post κs (flags, (code, (appId, (hopId, (endId, (table, (pool, (out, (result, tt))))))))) tt
     (flags, (code, (appId, (hopId, (endId, (table, (pool, (out′, (result′, tt)))))))))
+
+abbrev pub TandrekilyShift : Lfts 2 → Slice → ℕ → ℕ → Slice → Slice → Slice → Type 0
+TandrekilyShift κs table bytes records result table′ result′ =
+    tandrekily-shift.Post κs (table, (bytes, (records, (result, tt)))) tt (table′, (bytes, (records, (result′, tt))))
 
 abbrev pub TandrekilyIsUtf8 : Lfts 1 → Slice → Bool → Type 0
 TandrekilyIsUtf8 κs text r = tandrekily-is-utf8.Post κs (text, tt) r (text, tt)
