@@ -3,20 +3,21 @@
 // Link libtandrekily.a, for x86-64 Linux.
 //
 // What a caller passes:
-//   - With each pointer that has a length, so many bytes that may be read; those of `store` and `out` may be written too.
+//   - With each pointer that has a length, so many bytes that may be read. Those of `store` and `out`, and of the
+//     `table` of `tandrekily_shift`, may be written too.
 //   - `result` points to TANDREKILY_RESULT numbers, and for RADIUS to TANDREKILY_RADIUS_RESULT; `outline` points to
 //     TANDREKILY_OUTLINE, and `order` to one.
 //   - `authenticator` points to TANDREKILY_AUTHENTICATOR bytes. They may be written by `tandrekily_radius`, and are only read by
 //     `tandrekily_radius_write`.
 //   - No null pointer. Where a length is 0, any other pointer does, and nothing is read or written through it.
-//   - `store`, `out`, `result`, `outline`, `order` and an `authenticator` that may be written share no byte with anything else that
-//     is passed.
+//   - `store`, `out`, `result`, `outline`, `order`, and a `table` or an `authenticator` that may be written, share no
+//     byte with anything else that is passed.
 // Nothing else is asked: each function answers for any bytes and any numbers. Before a call the bytes of what may be written may be
 // anything.
 //
 // What a caller gets:
 //   - `result` and `outline` are written whole by every call, with zeros where nothing is returned.
-//   - A refusal changes no byte of `store`, `out`, `order` or `authenticator`.
+//   - A refusal changes no byte of `store`, `out`, `table`, `order` or `authenticator`.
 //   - Nothing is allocated or kept between calls, so calls may run in several threads at once.
 //   - A call takes less than 64 KiB of stack; bench/stack measures it at the deepest nesting.
 //   - An acceptance writes the whole of `store`: the records, and zero after them. So lend no more than the message needs: a
@@ -42,7 +43,7 @@ enum tandrekily_place {
     TANDREKILY_NUMBER = 0,      // the answer's number, listed below
     TANDREKILY_AMOUNT = 1,      // what a refusal returns besides; 0 if accepted
     TANDREKILY_ERRORS = 2,      // error flags of all that was read, joined
-    TANDREKILY_RECORDS = 3,     // records in the store
+    TANDREKILY_RECORDS = 3,     // records in the store, or moved
     TANDREKILY_TRIED = 4,       // AVP headers tried, those in groups that do not tile too; attributes of RADIUS
     TANDREKILY_LENGTH = 5,      // bytes consumed, or written
     TANDREKILY_MESSAGE_VERSION = 6, // from here on the fields of a message's header
@@ -65,8 +66,10 @@ enum tandrekily_answer {
     TANDREKILY_NO_RECORDS = 6,  // the store is too short; the amount is the records needed
     TANDREKILY_BAD_DEPTH = 7,   // the limit is not 1..64
     TANDREKILY_BAD_HEADER = 8,  // the command code is over 16,777,215
-    TANDREKILY_BAD_TABLE = 9,   // the amount is the index of the first bad record, or the record count if bytes are left over
-    TANDREKILY_TOO_LONG = 10,   // the message would be over 16,777,215 bytes, or 4,096 in RADIUS
+    TANDREKILY_BAD_TABLE = 9,   // the amount is the index of the first bad record, or the record count if bytes are
+                                // left over; a table to be moved is bad for that alone
+    TANDREKILY_TOO_LONG = 10,   // the message would be over 16,777,215 bytes, or 4,096 in RADIUS; a place or a parent,
+                                // moved, would be over 4,294,967,295
     TANDREKILY_NO_ROOM = 11,    // the output is too short; the amount is the bytes needed
     TANDREKILY_BAD_EDITION = 12, // the edition is neither 4006 nor 8506
     TANDREKILY_BAD_EXPONENT = 13 // an exponent is not -18..18
@@ -218,6 +221,23 @@ size_t tandrekily_next(const uint8_t *message, size_t message_length, size_t pla
 void tandrekily_write(uint8_t flags, uint32_t command_code, uint32_t application_id, uint32_t hop_by_hop, uint32_t end_to_end,
                       const uint8_t *table, size_t table_length, const uint8_t *pool, size_t pool_length, uint8_t *out,
                       size_t out_length, uint64_t result[TANDREKILY_RESULT]);
+
+// ---- joining
+
+// Moves the records of `table` to where they stand behind those of another table. A caller who has decoded two messages
+// so gets the table of the message that holds the AVPs of both, without decoding it: the first's records, and behind
+// them the second's, moved.
+//   - `bytes` is then the first message's length less TANDREKILY_HEADER, and `records` how many records the first has.
+//   - The AVP headers tried are those of both together. The error flags are those of the joined message's own header
+//     and those of all AVPs, joined.
+// Every place grows by `bytes`. Every parent grows by `records`, but at depth 1, where it is no index, it stays. No
+// other byte changes. The table ends with its last record: zeros behind that in a store are no records, but would be
+// moved too.
+//   accepted: the records, which are all moved; an empty table is accepted whatever the numbers
+//   refused, in this order: BAD_TABLE, TOO_LONG
+// A table of RADIUS is moved in the same way: the header of a packet has TANDREKILY_HEADER bytes too.
+void tandrekily_shift(uint8_t *table, size_t table_length, size_t bytes, size_t records,
+                      uint64_t result[TANDREKILY_RESULT]);
 
 // ---- RADIUS
 

@@ -49,6 +49,10 @@ static void spoil(int count, uint64_t *numbers) {
     memset(numbers, LENT, (size_t)count * sizeof *numbers);
 }
 
+static bool is_lent(uint64_t number) {
+    return all(LENT, (const uint8_t *)&number, sizeof number);
+}
+
 static void check_numbers(const char *name, int count, const uint64_t *expected, const uint64_t *numbers) {
     for (int i = 0; i < count; i++) {
         if (numbers[i] == expected[i]) continue;
@@ -1014,10 +1018,6 @@ static void decode_packet(const uint8_t *input, size_t length, size_t room) {
     tandrekily_radius(input, length, lent.store, room, lent.authenticator, lent.result);
 }
 
-static bool is_lent(uint64_t number) {
-    return all(LENT, (const uint8_t *)&number, sizeof number);
-}
-
 // The numbers of a result, and that it has no more.
 static void check_radius(const char *name, const uint64_t *expected, const uint64_t *result) {
     check_numbers(name, TANDREKILY_RADIUS_RESULT, expected, result);
@@ -1385,6 +1385,189 @@ static void radius_writer(void) {
     write_long("RADIUS write: length 256", 1, 256, "", 9, 0, PACKET_MOST);
 }
 
+// ---- joining
+
+// A record in which every other byte is something too, byte 23 among them.
+#define ROW(place, depth, parent) "0102030A 4F 00000D 000028AF" place depth "08 0C 03 11223377 01020304 05060708" parent
+#define LEFT_35 "0102030A 4F 00000D 000028AF 0000001C 01 08 0C 03 11223377 01020304 05060708 FFFFFF"
+#define TOP ROW("0000001C", "01", "FFFFFFFF")
+#define FAR_TOP ROW("FFFFFFFF", "01", "FFFFFFFF")
+#define FAR_MEMBER ROW("0000001C", "02", "FFFFFFFF")
+
+// Where it is refused, `moved` is empty: the table stays as it was.
+struct shifting {
+    const char *name, *table;
+    size_t bytes, records;
+    uint64_t number, amount;
+    const char *moved;
+};
+
+static const struct shifting shifts[] = {
+    {"shift: no record", "", 36, 5, 0, 0, ""},
+    {"shift: no record, and the largest numbers", "", SIZE_MAX, SIZE_MAX, 0, 0, ""},
+    {"shift: a record in no group", TOP, 36, 5, 0, 0, ROW("00000040", "01", "FFFFFFFF")},
+    {"shift: groups, one in another",
+     TOP ROW("00000024", "02", "00000000") ROW("0000002C", "03", "00000001") ROW("00000038", "01", "FFFFFFFF")
+     ROW("00000040", "02", "00000003"), 60, 7, 0, 0,
+     ROW("00000058", "01", "FFFFFFFF") ROW("00000060", "02", "00000007") ROW("00000068", "03", "00000008")
+     ROW("00000074", "01", "FFFFFFFF") ROW("0000007C", "02", "0000000A")},
+    {"shift: by nothing", TOP ROW("00000024", "02", "00000000"), 0, 0, 0, 0, TOP ROW("00000024", "02", "00000000")},
+    {"shift: by bytes alone", TOP ROW("00000024", "02", "00000000"), 4, 0, 0, 0,
+     ROW("00000020", "01", "FFFFFFFF") ROW("00000028", "02", "00000000")},
+    {"shift: by records alone", TOP ROW("00000024", "02", "00000000"), 0, 1, 0, 0,
+     TOP ROW("00000024", "02", "00000001")},
+    {"shift: four bytes", ROW("10203040", "02", "20304050"), 0x01020304, 0x05060708, 0, 0,
+     ROW("11223344", "02", "25364758")},
+    {"shift: a byte is carried", ROW("000000FF", "02", "000000FF"), 1, 1, 0, 0, ROW("00000100", "02", "00000100")},
+    {"shift: two bytes are carried", ROW("0000FFFF", "02", "0000FFFF"), 1, 1, 0, 0, ROW("00010000", "02", "00010000")},
+    {"shift: three bytes are carried", ROW("00FFFFFF", "02", "00FFFFFF"), 1, 1, 0, 0,
+     ROW("01000000", "02", "01000000")},
+    {"shift: depth 1 and a parent", ROW("0000001C", "01", "00000005"), 36, 5, 0, 0, ROW("00000040", "01", "00000005")},
+    {"shift: depth 1 and any number of records", TOP ROW("0000001C", "01", "00000005"), 36, SIZE_MAX, 0, 0,
+     ROW("00000040", "01", "FFFFFFFF") ROW("00000040", "01", "00000005")},
+    {"shift: depth 0", ROW("0000001C", "00", "00000005"), 36, 5, 0, 0, ROW("00000040", "00", "0000000A")},
+    {"shift: depth 64", ROW("0000001C", "40", "00000005"), 36, 5, 0, 0, ROW("00000040", "40", "0000000A")},
+    {"shift: depth 129", ROW("0000001C", "81", "00000005"), 36, 5, 0, 0, ROW("00000040", "81", "0000000A")},
+    {"shift: depth 255", ROW("0000001C", "FF", "00000005"), 36, 5, 0, 0, ROW("00000040", "FF", "0000000A")},
+    {"shift: to the last place", ROW("FFFFFFFE", "01", "FFFFFFFF"), 1, 1, 0, 0, FAR_TOP},
+    {"shift: past the last place", ROW("FFFFFFFE", "01", "FFFFFFFF"), 2, 1, 10, 0, ""},
+    {"shift: at the last place", FAR_TOP, 0, 1, 0, 0, FAR_TOP},
+    {"shift: from the last place", FAR_TOP, 1, 0, 10, 0, ""},
+    {"shift: from place 0 to the last", ROW("00000000", "01", "FFFFFFFF"), UINT32_MAX, 0, 0, 0, FAR_TOP},
+    {"shift: by 4,294,967,296 bytes", ROW("00000000", "01", "FFFFFFFF"), (size_t)UINT32_MAX + 1, 0, 10, 0, ""},
+    {"shift: by the most bytes", ROW("00000001", "01", "FFFFFFFF"), SIZE_MAX, 0, 10, 0, ""},
+    {"shift: a place that wraps to 0", FAR_TOP, SIZE_MAX - UINT32_MAX + 1, 0, 10, 0, ""},
+    {"shift: to the last parent", ROW("0000001C", "02", "FFFFFFFE"), 0, 1, 0, 0, FAR_MEMBER},
+    {"shift: past the last parent", ROW("0000001C", "02", "FFFFFFFE"), 0, 2, 10, 0, ""},
+    {"shift: a mark below depth 1, by no record", FAR_MEMBER, 0, 0, 0, 0, FAR_MEMBER},
+    {"shift: a mark below depth 1", FAR_MEMBER, 0, 1, 10, 0, ""},
+    {"shift: a mark at depth 0", ROW("0000001C", "00", "FFFFFFFF"), 0, 1, 10, 0, ""},
+    {"shift: from parent 0 to the last", ROW("0000001C", "02", "00000000"), 0, UINT32_MAX, 0, 0, FAR_MEMBER},
+    {"shift: by 4,294,967,296 records", ROW("0000001C", "02", "00000000"), 0, (size_t)UINT32_MAX + 1, 10, 0, ""},
+    {"shift: by the most records", ROW("0000001C", "02", "00000001"), 0, SIZE_MAX, 10, 0, ""},
+    {"shift: a parent that wraps to 0", FAR_MEMBER, 0, SIZE_MAX - UINT32_MAX + 1, 10, 0, ""},
+    {"shift: the first of three is too far", FAR_TOP TOP TOP, 1, 1, 10, 0, ""},
+    {"shift: the second of three is too far", TOP FAR_TOP TOP, 1, 1, 10, 0, ""},
+    {"shift: the last of three is too far", TOP TOP FAR_TOP, 1, 1, 10, 0, ""},
+    {"shift: the parent of the last of three is too far", TOP TOP FAR_MEMBER, 1, 1, 10, 0, ""},
+    {"shift: a byte left over and no record", "00", 36, 5, 9, 0, ""},
+    {"shift: 35 bytes left over and no record", LEFT_35, 36, 5, 9, 0, ""},
+    {"shift: a byte left over", TOP "00", 36, 5, 9, 1, ""},
+    {"shift: 35 bytes left over", TOP TOP LEFT_35, 36, 5, 9, 2, ""},
+    {"shift: a byte left over, and by nothing", TOP "00", 0, 0, 9, 1, ""},
+    {"shift: a byte left over, and a record is too far", TOP FAR_TOP TOP "00", 1, 1, 9, 3, ""},
+    {"shift: a byte left over, and the largest numbers", "00", SIZE_MAX, SIZE_MAX, 9, 0, ""},
+};
+
+enum { LONG_TABLE = 65537 * TANDREKILY_RECORD_SIZE };
+
+// The table is `length` bytes, and then is `moved`. Neither what is behind it nor what is behind the result may change.
+static void shift(const char *name, const uint8_t *table, size_t length, size_t bytes, size_t records, uint64_t number,
+                  uint64_t amount, const uint8_t *moved) {
+    static uint8_t lent_table[LONG_TABLE + BEHIND];
+    uint64_t result[TANDREKILY_RESULT + 1];
+    uint64_t expected[TANDREKILY_RESULT] = {number, amount};
+    if (number == TANDREKILY_ACCEPTED) expected[TANDREKILY_RECORDS] = length / TANDREKILY_RECORD_SIZE;
+    memcpy(lent_table, table, length);
+    memset(lent_table + length, LENT, BEHIND);
+    spoil(TANDREKILY_RESULT + 1, result);
+    tandrekily_shift(lent_table, length, bytes, records, result);
+    check_result(name, expected, result);
+    check(name, "a number after the result was changed", is_lent(result[TANDREKILY_RESULT]));
+    check(name, "the table is another", memcmp(lent_table, moved, length) == 0);
+    check(name, "bytes after the table were changed", all(LENT, lent_table + length, BEHIND));
+}
+
+static void put_row(const uint8_t *like, uint32_t place, uint32_t parent, uint8_t *row) {
+    memcpy(row, like, TANDREKILY_RECORD_SIZE);
+    for (int i = 0; i < 4; i++) row[TANDREKILY_RECORD_PLACE + i] = (uint8_t)(place >> (24 - 8 * i));
+    set_parent(row, parent);
+}
+
+// More records than two bytes count. Each is moved, or none where the last is too far.
+static void shift_long(void) {
+    static uint8_t table[LONG_TABLE], moved[LONG_TABLE];
+    uint8_t member[TANDREKILY_RECORD_SIZE];
+    bytes_of(FAR_MEMBER, member);
+    for (uint32_t i = 0; i < LONG_TABLE / TANDREKILY_RECORD_SIZE; i++) {
+        put_row(member, 8 * i, i, table + i * TANDREKILY_RECORD_SIZE);
+        put_row(member, 8 * i + 524316, i + 65539, moved + i * TANDREKILY_RECORD_SIZE);
+    }
+    shift("shift: a long table", table, sizeof table, 524316, 65539, 0, 0, moved);
+    set_parent(table + sizeof table - TANDREKILY_RECORD_SIZE, TANDREKILY_TOP_LEVEL);
+    shift("shift: a long table, and the last is too far", table, sizeof table, 524316, 65539, 10, 0, table);
+}
+
+// What follows a header: nothing, and runs with groups, some of which do not tile, with flags of each sort.
+static const char *const runs[] = {
+    "", RESULT_CODE, FAILING, NESTED, BARE BRANCHES ONE BARE, CUT_NAME ADDRESS, CLASS EMPTY_GROUP TORN,
+    "0000002C 9F 00000E 000028AF ABCD 1234", "000001BD 40 000018 000001BF 40 000010 00000000 0000041A" ONE,
+};
+
+// A message of one run, or of two.
+static size_t message_of(const char *run, const char *other, uint8_t *out) {
+    size_t length = bytes_of(MESSAGE("14"), out);
+    length += bytes_of(run, out + length);
+    length += bytes_of(other, out + length);
+    out[2] = (uint8_t)(length >> 8);
+    out[3] = (uint8_t)length;
+    return length;
+}
+
+// Joined as tables they are what they are as one message.
+static void join(decoder *decode, uint32_t by, const char *run, const char *other) {
+    uint8_t input[MOST], table[MOST], whole[MOST];
+    uint64_t first[TANDREKILY_RESULT], second[TANDREKILY_RESULT], all_of[TANDREKILY_RESULT];
+    uint64_t moved[TANDREKILY_RESULT + 1];
+    size_t length = message_of(run, other, input);
+    decode(by, 64, input, length, whole, sizeof whole, all_of);
+    length = message_of(run, "", input);
+    decode(by, 64, input, length, table, sizeof table, first);
+    size_t bytes = length - TANDREKILY_HEADER, records = (size_t)first[TANDREKILY_RECORDS];
+    size_t used = records * TANDREKILY_RECORD_SIZE;
+    length = message_of(other, "", input);
+    decode(by, 64, input, length, table + used, sizeof table - used, second);
+    size_t size = (size_t)second[TANDREKILY_RECORDS] * TANDREKILY_RECORD_SIZE;
+    tandrekily_shift(table + used, size, bytes, records, moved);
+    check("join", "not decoded", all_of[TANDREKILY_NUMBER] == TANDREKILY_ACCEPTED);
+    check("join", "not moved", moved[TANDREKILY_NUMBER] == TANDREKILY_ACCEPTED);
+    check("join", "other records", all_of[TANDREKILY_RECORDS] == records + moved[TANDREKILY_RECORDS]);
+    check("join", "another table", memcmp(table, whole, sizeof table) == 0);
+    check("join", "others tried", all_of[TANDREKILY_TRIED] == first[TANDREKILY_TRIED] + second[TANDREKILY_TRIED]);
+    check("join", "other flags", all_of[TANDREKILY_ERRORS] == (first[TANDREKILY_ERRORS] | second[TANDREKILY_ERRORS]));
+}
+
+// Two packets of RADIUS, in the same way.
+static void join_packets(void) {
+    uint8_t input[MOST], table[MOST], moved[MOST];
+    size_t length = bytes_of(PACKET("002D") "0B05414243" NAME "2C0561FF62" "0406C0000201" "050400FF", input);
+    decode_packet(input, length, 5 * TANDREKILY_RECORD_SIZE);
+    memcpy(moved, lent.store + 2 * TANDREKILY_RECORD_SIZE, 3 * TANDREKILY_RECORD_SIZE);
+    length = bytes_of(PACKET("0023") "2C0561FF62" "0406C0000201" "050400FF", input);
+    decode_packet(input, length, 3 * TANDREKILY_RECORD_SIZE);
+    memcpy(table, lent.store, 3 * TANDREKILY_RECORD_SIZE);
+    shift("shift: RADIUS", table, 3 * TANDREKILY_RECORD_SIZE, 10, 2, 0, 0, moved);
+}
+
+static void joining(void) {
+    uint8_t table[MOST], moved[MOST];
+    for (size_t i = 0; i < sizeof shifts / sizeof *shifts; i++) {
+        const struct shifting *s = &shifts[i];
+        size_t length = bytes_of(s->table, table);
+        bytes_of(s->number == TANDREKILY_ACCEPTED ? s->moved : s->table, moved);
+        shift(s->name, table, length, s->bytes, s->records, s->number, s->amount, moved);
+    }
+    shift_long();
+    for (size_t i = 0; i < sizeof runs / sizeof *runs; i++)
+        for (size_t j = 0; j < sizeof runs / sizeof *runs; j++) {
+            join(message, SAWP, runs[i], runs[j]);
+            join(message, RFC, runs[i], runs[j]);
+            join(tandrekily_message_by, TANDREKILY_RFC_4006, runs[i], runs[j]);
+            join(tandrekily_message_by, TANDREKILY_RFC_8506, runs[i], runs[j]);
+        }
+    join_packets();
+}
+
 int main(void) {
     decoders();
     long_group();
@@ -1401,6 +1584,7 @@ int main(void) {
     radius_reader();
     radius_texts();
     radius_writer();
+    joining();
     printf("%d failures\n", failures);
     return failures == 0 ? 0 : 1;
 }

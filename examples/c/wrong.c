@@ -36,12 +36,13 @@ radius_decoder __real_tandrekily_radius, __wrap_tandrekily_radius;
 typedef void radius_writer(uint8_t, uint8_t, const uint8_t *, const uint8_t *, size_t, const uint8_t *, size_t, uint8_t *, size_t,
                            uint64_t *);
 radius_writer __real_tandrekily_radius_write, __wrap_tandrekily_radius_write;
+void __wrap_tandrekily_shift(uint8_t *, size_t, size_t, size_t, uint64_t *);
 
-// Each function's ways to be wrong are numbered from a hundred of its own, and RADIUS has two of them; the first are the numbers of
-// its result or outline.
+// Each function's ways to be wrong are numbered from a hundred of its own, and RADIUS and joining have two of them; the
+// first are the numbers of its result or outline.
 enum { MESSAGE = 100, AVP = 200, HEADER = 300, WRITE = 400, IS_UTF8 = 500, UNIX_SECONDS = 600, FIND = 700, NEXT = 800 };
 enum { MESSAGE_BY = 900, AVP_BY = 1000, INTEGER32 = 1100, INTEGER64 = 1200, COMPARE = 1300, UTF8 = 1400 };
-enum { RADIUS = 1500, RADIUS_WRITE = 1700 };
+enum { RADIUS = 1500, RADIUS_WRITE = 1700, SHIFT = 1800 };
 enum { TOUCHED_IF_REFUSED = 20, TAIL_IF_ACCEPTED = 21, OTHER_READING = 22, OTHER_LIMIT = 23, BYTE = 40 };
 enum { OTHER_CODE = 24, LAST = 25, NONE_IF_NOT_TILED = 26, NOT_TILED_IF_NONE = 27 };
 enum { STAYS = 28, FURTHER = 29, LATER = 30 };
@@ -62,6 +63,14 @@ enum { NAME_IS_TEXT = 22, SESSION_IS_STRING, UNKNOWN_IS_STRING, LOW_BITS_OF_TYPE
 enum { ANY_TYPE = 8, ANY_LENGTH, NO_LEAST_LENGTH, ANY_DEPTH, ANY_FLAGS, ANY_VENDOR, ANY_PADDING, ANY_PADS, ANY_PLACE, PLACE_LOW_BITS };
 enum { EMPTY_ANYWHERE = 22, KIND_READ, ERRORS_READ, ZERO_READ, VALUE_READ, LEFT_OVER_WRITTEN, LEFT_OVER_FIRST, TOTAL_4095 };
 enum { ROOM_BEFORE_TOTAL = 30, LENGTH_BEFORE_TABLE, SECOND_DATA };
+enum { MARK_MOVED = 13, MARK_BY_NUMBER, PARENTS_STAY, PLACES_STAY, PARENT_BY_BYTES, PLACE_BY_RECORDS, BY_OWN_COUNT };
+enum { FIRST_STAYS = 22, LAST_STAYS, TOP_PLACES_ALONE, DEPTH_2_ALONE, DEPTH_0_IS_TOP, DEPTH_LOW_BITS, LOW_TWO_BYTES };
+enum { LOW_TWO_PARENT_BYTES = 29, COUNT_IN_A_BYTE, COUNT_IN_TWO_BYTES, ZERO_CLEARED, BEHIND_TABLE, LENGTH_TOO };
+enum { MARK_BY_BOTH = 35, MARK_BY_EITHER, TOO_DEEP_IS_TOP };
+enum { ANY_PLACE_FITS = 76, ANY_PARENT_FITS, LAST_PLACE_REFUSED, LAST_PARENT_REFUSED, MARK_TESTED, NUMBERS_IN_32_BITS };
+enum { SUMS_WRAP = 82, EMPTY_TESTED, FIRST_TESTED, LAST_NOT_TESTED, LEFT_OVER_MOVED, TOO_FAR_FIRST, LEFT_OVER_TOLD };
+enum { INDEX_TOLD = 89, RECORDS_IF_REFUSED, MOVED_UP_TO_IT = 92, MOVED_BUT_IT, MOVED_IF_LEFT_OVER, PLACES_IF_REFUSED };
+enum { LAST_BYTE = 100 };
 
 static int wrong(int function) {
     return atoi(getenv("WRONG")) - function;
@@ -648,4 +657,120 @@ void __wrap_tandrekily_radius_write(uint8_t code, uint8_t identifier, const uint
     if (way == SECOND_DATA && accepted && whole > TANDREKILY_RECORD_SIZE) out[used - 1] ^= 1;
     spoil_bytes(way, accepted, out, room, used);
     spoil_radius(way, result);
+}
+
+// ---- joining
+
+// Is the record taken for one in no group?
+static bool is_top(int way, const uint8_t *table, size_t index) {
+    uint8_t depth = depth_at(table, index);
+    bool mark = parent_at(table, index) == TANDREKILY_TOP_LEVEL;
+    if (way == MARK_BY_NUMBER) return mark;
+    if (way == MARK_BY_BOTH) return mark && depth == 1;
+    if (way == MARK_BY_EITHER) return mark || depth == 1;
+    if (way == DEPTH_0_IS_TOP) return depth <= 1;
+    if (way == TOO_DEEP_IS_TOP) return depth == 1 || depth > 64;
+    return (way == DEPTH_LOW_BITS ? depth & 0x7F : depth) == 1;
+}
+
+// Does a number that grows by so much keep to its four bytes? `any` is the way that takes all, and `less` the one whose
+// bound is one less.
+static bool fits(int way, int any, int less, uint32_t number, size_t more) {
+    uint32_t left = UINT32_MAX - number;
+    if (way == NUMBERS_IN_32_BITS) more = (uint32_t)more;
+    if (way == SUMS_WRAP) return number + more <= UINT32_MAX;
+    return way == any || (way == less ? more < left : more <= left);
+}
+
+static uint32_t place_at(const uint8_t *table, size_t index) {
+    return (uint32_t)number_at(table + index * TANDREKILY_RECORD_SIZE + TANDREKILY_RECORD_PLACE, 4);
+}
+
+static bool record_fits(int way, const uint8_t *table, size_t index, size_t bytes, size_t records) {
+    bool has_index = !is_top(way, table, index) || way == MARK_TESTED;
+    if (!fits(way, ANY_PLACE_FITS, LAST_PLACE_REFUSED, place_at(table, index), bytes)) return false;
+    return !has_index || fits(way, ANY_PARENT_FITS, LAST_PARENT_REFUSED, parent_at(table, index), records);
+}
+
+// The index of the first record that does not fit, or how many there are.
+static size_t first_too_far(int way, const uint8_t *table, size_t count, size_t bytes, size_t records) {
+    size_t tested = way == FIRST_TESTED && count > 1 ? 1 : count - (way == LAST_NOT_TESTED && count > 0);
+    for (size_t i = 0; i < tested; i++)
+        if (!record_fits(way, table, i, bytes, records)) return i;
+    return count;
+}
+
+static void move_place(int way, uint8_t *table, size_t index, size_t more) {
+    uint8_t *at = table + index * TANDREKILY_RECORD_SIZE + TANDREKILY_RECORD_PLACE;
+    uint32_t place = place_at(table, index) + (uint32_t)more;
+    if (way == PLACES_STAY || (way == TOP_PLACES_ALONE && depth_at(table, index) != 1)) return;
+    for (int i = way == LOW_TWO_BYTES ? 2 : 0; i < 4; i++) at[i] = (uint8_t)(place >> (24 - 8 * i));
+}
+
+static void move_parent(int way, uint8_t *table, size_t index, size_t more) {
+    uint32_t parent = parent_at(table, index) + (uint32_t)more;
+    if (is_top(way, table, index) && way != MARK_MOVED) return;
+    if (way == PARENTS_STAY || (way == DEPTH_2_ALONE && depth_at(table, index) != 2)) return;
+    set_parent(table, index, way == LOW_TWO_PARENT_BYTES ? (uint16_t)parent : parent);
+}
+
+static void move_records(int way, uint8_t *table, size_t count, size_t bytes, size_t records) {
+    if (way == COUNT_IN_A_BYTE) count = (uint8_t)count;
+    if (way == COUNT_IN_TWO_BYTES) count = (uint16_t)count;
+    for (size_t i = way == FIRST_STAYS; i + (way == LAST_STAYS) < count; i++) {
+        move_place(way, table, i, way == PLACE_BY_RECORDS ? records : bytes);
+        move_parent(way, table, i, way == PARENT_BY_BYTES ? bytes : way == BY_OWN_COUNT ? count : records);
+        if (way == ZERO_CLEARED) table[i * TANDREKILY_RECORD_SIZE + TANDREKILY_RECORD_ZERO] = 0;
+    }
+}
+
+// What is changed although the table is refused.
+static void move_refused(int way, uint8_t *table, size_t far, size_t count, size_t bytes, size_t records) {
+    if (way == MOVED_UP_TO_IT) move_records(way, table, far, bytes, records);
+    if (way == MOVED_IF_LEFT_OVER && far == count) move_records(way, table, count, bytes, records);
+    for (size_t i = 0; i < count; i++) {
+        bool moved = way == MOVED_BUT_IT && i != far;
+        if (moved) move_parent(way, table, i, records);
+        if (moved || way == PLACES_IF_REFUSED) move_place(way, table, i, bytes);
+    }
+}
+
+static void spoil_shifted(int way, bool accepted, uint8_t *table, size_t length, uint64_t *result) {
+    bool has_last = accepted && length > 0;
+    spoil_bytes(way, accepted, table, length, length);
+    if (way >= LAST_BYTE && way < LAST_BYTE + TANDREKILY_RECORD_SIZE && has_last)
+        table[length - TANDREKILY_RECORD_SIZE + (size_t)(way - LAST_BYTE)] ^= 1;
+    if (way == BEHIND_TABLE && accepted) table[length] ^= 1;
+    if (way == LENGTH_TOO && accepted) result[TANDREKILY_LENGTH] = length;
+    if (way == RECORDS_IF_REFUSED && !accepted) result[TANDREKILY_RECORDS] = length / TANDREKILY_RECORD_SIZE;
+    if (way == RESULT_TOO_LONG) result[TANDREKILY_RESULT] = 0;
+    spoil_result(way, result);
+}
+
+// What comes with a refusal. `far` records are before the first that does not fit.
+static uint64_t amount_told(int way, bool bad, size_t length, size_t far) {
+    if (bad) return way == LEFT_OVER_TOLD ? length % TANDREKILY_RECORD_SIZE : length / TANDREKILY_RECORD_SIZE;
+    return way == INDEX_TOLD ? far : 0;
+}
+
+// A second writing of the rules, since most ways can't be made of what the library answers. In no way wrong, it passes
+// the tests.
+void __wrap_tandrekily_shift(uint8_t *table, size_t length, size_t bytes, size_t records, uint64_t *result) {
+    int way = wrong(SHIFT);
+    size_t count = length / TANDREKILY_RECORD_SIZE;
+    size_t far = first_too_far(way, table, count, bytes, records);
+    bool too_far = far < count || (way == EMPTY_TESTED && bytes > UINT32_MAX);
+    bool left_over = length % TANDREKILY_RECORD_SIZE != 0 && way != LEFT_OVER_MOVED;
+    bool accepted = !left_over && !too_far;
+    memset(result, 0, TANDREKILY_RESULT * sizeof *result);
+    if (accepted) {
+        result[TANDREKILY_RECORDS] = count;
+        move_records(way, table, count, bytes, records);
+    } else {
+        bool bad = left_over && !(way == TOO_FAR_FIRST && too_far);
+        result[TANDREKILY_NUMBER] = bad ? TANDREKILY_BAD_TABLE : TANDREKILY_TOO_LONG;
+        result[TANDREKILY_AMOUNT] = amount_told(way, bad, length, far);
+        move_refused(way, table, far, count, bytes, records);
+    }
+    spoil_shifted(way, accepted, table, length, result);
 }

@@ -1,4 +1,5 @@
-//! The unsafe boundary: fourteen functions of the proved library, and one safe wrapper for each. No other file may have `unsafe`.
+//! The unsafe boundary: fifteen functions of the proved library, and one safe wrapper for each. No other file may have
+//! `unsafe`.
 //! The library has two more, `tandrekily_integer32` and `tandrekily_integer64`, for which Rust has casts.
 //!
 //! The declarations are those of `crates/tandrekily/src/lib.rt`. What every call below relies on:
@@ -93,6 +94,14 @@ extern "C" {
         pool_len: usize,
         out: *mut u8,
         out_len: usize,
+        result: *mut Numbers,
+    );
+
+    fn tandrekily_shift(
+        table: *mut u8,
+        table_len: usize,
+        bytes: usize,
+        records: usize,
         result: *mut Numbers,
     );
 
@@ -246,6 +255,14 @@ pub fn write(fields: crate::Fields, table: &[u8], pool: &[u8], out: &mut [u8]) -
             &mut result,
         );
     }
+    result
+}
+
+pub fn shift(table: &mut [u8], bytes: usize, records: usize) -> Numbers {
+    let mut result = NOTHING;
+    // SAFETY: `table` is a live slice, which is exclusive; `result` is 13 numbers of this frame. Any table and any
+    // numbers are answered.
+    unsafe { tandrekily_shift(table.as_mut_ptr(), table.len(), bytes, records, &mut result) };
     result
 }
 

@@ -130,6 +130,12 @@
 //! assert_eq!(out[20..32], *b"\0\0\0\x01\x40\0\0\x0Bbob\0");
 //! # Ok::<(), tandrekily::Refusal>(())
 //! ```
+//!
+//! # Joining
+//!
+//! A caller who has decoded two messages, as fragments of a report, gets the table of the message that holds the AVPs
+//! of both without decoding it. [`shift`] moves the second's records to where they stand behind the first's:
+//! `shift(table, first.length - Header::SIZE, first.records().len())`.
 
 #![no_std]
 #![deny(missing_docs)]
@@ -141,6 +147,7 @@ mod edition;
 #[allow(unsafe_code)]
 mod ffi;
 mod header;
+mod joining;
 pub mod radius;
 mod reader;
 mod record;
@@ -152,6 +159,7 @@ mod value;
 use answer::Answer;
 pub use edition::Edition;
 pub use header::{Fields, Header};
+pub use joining::shift;
 pub use reader::{find, Outline, Reader};
 pub use record::{Avp, Record, Records};
 pub use refusal::Refusal;

@@ -3,13 +3,15 @@
 use core::error::Error;
 use core::fmt::{Display, Formatter, Result};
 
-/// Why nothing was decoded, found, written or compared. A refusal has changed no byte of the store or the output.
+/// Why nothing was decoded, found, written, moved or compared. A refusal has changed no byte of the store, the output
+/// or the table.
 ///
 /// Where more than one holds, the first is given, in this order: to decode a message, [`BadDepth`](Refusal::BadDepth), then, by an
 /// edition, [`BadEdition`](Refusal::BadEdition), then [`Incomplete`](Refusal::Incomplete), [`NotVersion`](Refusal::NotVersion) and [`BadLength`](Refusal::BadLength) as the header's
 /// bytes are read, then [`NotTiled`](Refusal::NotTiled), [`TooDeep`](Refusal::TooDeep), [`NoRecords`](Refusal::NoRecords); to
 /// find an AVP, those of the header and then [`NotTiled`](Refusal::NotTiled); to write, the writer's four in the order below. Those of
-/// RADIUS are said at [`radius::decode`](crate::radius::decode) and [`radius::write`](crate::radius::write()).
+/// RADIUS are said at [`radius::decode`](crate::radius::decode) and [`radius::write`](crate::radius::write()); those of
+/// a table to be moved at [`shift`](crate::shift).
 ///
 /// ```
 /// use tandrekily::{header, Refusal};
@@ -43,9 +45,10 @@ pub enum Refusal {
     /// Writer: the command code doesn't fit 24 bits.
     BadHeader,
     /// Writer: the table breaks a rule. The index of the first record that does, or the number of records where bytes are left
-    /// over after the last one.
+    /// over after the last one. A table to be moved breaks a rule by that alone.
     BadTable(usize),
-    /// Writer: the message's length would not fit 24 bits, or a packet's would be over 4,096.
+    /// Writer: the message's length would not fit 24 bits, or a packet's would be over 4,096. Moving a table: a place
+    /// or a parent would not fit 32 bits.
     TooLong,
     /// Writer: the output is too short: how long the message is.
     NoRoom(usize),
@@ -121,7 +124,9 @@ impl Display for Refusal {
             Refusal::BadDepth => f.write_str("the depth limit is not 1 to 64"),
             Refusal::BadHeader => f.write_str("the command code does not fit 24 bits"),
             Refusal::BadTable(n) => write!(f, "the table breaks a rule at record {n}"),
-            Refusal::TooLong => f.write_str("the message would be longer than one may be"),
+            Refusal::TooLong => {
+                f.write_str("the message would be too long, or a place or a parent too large")
+            }
             Refusal::NoRoom(n) => write!(f, "there is no room for {n} bytes"),
             Refusal::BadEdition => f.write_str("the edition is neither 4006 nor 8506"),
             Refusal::BadExponent => f.write_str("an exponent is not -18 to 18"),

@@ -5,8 +5,10 @@ mod parents;
 
 use frames::{be_u32, frames, replay, Frame};
 use parents::check_parents;
-use tandrekily::{decode, decode_avp, decode_avp_by, decode_by, find, header, radius, write};
-use tandrekily::{Fields, Header, Message, OneAvp, Reader, Reading, Records, Refusal, UnitValue};
+use tandrekily::{decode, decode_avp, decode_avp_by, decode_by};
+use tandrekily::{find, header, radius, shift, write};
+use tandrekily::{Fields, Header, Message, OneAvp, Reader, Reading};
+use tandrekily::{Record, Records, Refusal, UnitValue};
 
 const MESSAGE: u8 = 0;
 const HEADER_ALONE: u8 = 1;
@@ -18,10 +20,12 @@ const AVP_BY: u8 = 7;
 const COMPARISON: u8 = 8;
 const PACKET: u8 = 9;
 const PACKET_TABLE: u8 = 10;
+const MOVED: u8 = 11;
+const JOINED: u8 = 12;
 
 /// How many cases of each function there are at least.
-const CASES: [usize; 11] = [
-    4_400, 100, 1_500, 200, 1_400, 600, 1_400, 600, 1_100, 1_700, 1_000,
+const CASES: [usize; 13] = [
+    4_700, 100, 1_500, 200, 1_400, 600, 1_400, 600, 1_100, 1_700, 1_000, 500, 200,
 ];
 
 /// How many bytes the fields take in the input of a case for a writer.
@@ -145,11 +149,12 @@ fn parts(input: &[u8], fields: usize) -> (&[u8], &[u8], &[u8]) {
     (front, table, pool)
 }
 
-fn put_written(out: &mut Vec<u8>, answer: Result<usize, Refusal>) {
+/// Of a writer the count is the total, of a table that is moved its records.
+fn put_counted(out: &mut Vec<u8>, answer: Result<usize, Refusal>) {
     match answer {
-        Ok(total) => {
+        Ok(count) => {
             put_accepted(out);
-            put_count(out, total);
+            put_count(out, count);
         }
         Err(refusal) => put_refusal(out, refusal),
     }
@@ -158,7 +163,7 @@ fn put_written(out: &mut Vec<u8>, answer: Result<usize, Refusal>) {
 fn table(frame: &Frame, store: &mut [u8], out: &mut Vec<u8>) {
     let (fields, table, pool) = parts(&frame.input, FIELDS);
     let answer = write(fields_of(fields), table, pool, store);
-    put_written(out, answer);
+    put_counted(out, answer);
 }
 
 /// The code stands before the message. A fresh reader must find the same.
@@ -262,7 +267,72 @@ fn packet_header(bytes: &[u8]) -> radius::Header {
 fn packet_table(frame: &Frame, store: &mut [u8], out: &mut Vec<u8>) {
     let (fields, table, pool) = parts(&frame.input, PACKET_FIELDS);
     let answer = radius::write(packet_header(fields), table, pool, store);
-    put_written(out, answer);
+    put_counted(out, answer);
+}
+
+fn wide(bytes: &[u8]) -> usize {
+    u64::from_be_bytes(bytes.try_into().expect("8 bytes")) as usize
+}
+
+/// How many bytes and how many records the table is moved by stand before it. It is moved at the front of the store.
+fn moved(frame: &Frame, store: &mut [u8], out: &mut Vec<u8>) {
+    let (bytes, rest) = frame.input.split_at(8);
+    let (records, table) = rest.split_at(8);
+    let copy = &mut store[..table.len()];
+    copy.copy_from_slice(table);
+    let answer = shift(copy, wide(bytes), wide(records));
+    put_counted(out, answer);
+}
+
+/// What is answered of a message that was joined.
+struct Counts {
+    errors: u8,
+    records: usize,
+    tried: usize,
+    length: usize,
+}
+
+impl Counts {
+    fn of(message: &Message) -> Counts {
+        Counts {
+            errors: message.errors,
+            records: message.records().len(),
+            tried: message.tried,
+            length: message.length,
+        }
+    }
+
+    fn and(self, second: Counts) -> Counts {
+        Counts {
+            errors: self.errors | second.errors,
+            records: self.records + second.records,
+            tried: self.tried + second.tried,
+            length: self.length + second.length - Header::SIZE,
+        }
+    }
+}
+
+/// The second message is decoded behind the records of the first, and its records are moved there.
+fn join(frame: &Frame, store: &mut [u8]) -> Result<Counts, Refusal> {
+    let (size, rest) = frame.input.split_at(4);
+    let (first, second) = rest.split_at(be_u32(size) as usize);
+    let first = Counts::of(&decode(first, frame.reading, frame.limits, store)?);
+    let behind = &mut store[first.records * Record::SIZE..];
+    let second = Counts::of(&decode(second, frame.reading, frame.limits, behind)?);
+    let table = &mut behind[..second.records * Record::SIZE];
+    let moved = shift(table, first.length - Header::SIZE, first.records)?;
+    assert_eq!(moved, second.records);
+    Ok(first.and(second))
+}
+
+fn joined(frame: &Frame, store: &mut [u8], out: &mut Vec<u8>) {
+    match join(frame, store) {
+        Ok(both) => {
+            put_accepted(out);
+            put_counts(out, both.errors, both.records, both.tried, both.length);
+        }
+        Err(refusal) => put_refusal(out, refusal),
+    }
 }
 
 fn answer(frame: &Frame) -> Vec<u8> {
@@ -279,6 +349,8 @@ fn answer(frame: &Frame) -> Vec<u8> {
         COMPARISON => comparison(frame, &mut out),
         PACKET => packet(frame, &mut store, &mut out),
         PACKET_TABLE => packet_table(frame, &mut store, &mut out),
+        MOVED => moved(frame, &mut store, &mut out),
+        JOINED => joined(frame, &mut store, &mut out),
         _ => table(frame, &mut store, &mut out),
     }
     out.extend(store);
