@@ -1,22 +1,27 @@
 """Makes cases from a seed, a line each as in cases.txt: python3 oracle/made.py SEED COUNT, of the RFC reading, or, with a word behind it, others: `search` for
 searches and steps, which know no reading, `edition` for messages and AVPs by an edition, `compare` for comparisons, `table` for tables to be written, `radius`
-for packets of RADIUS, read and to be written.
+for packets of RADIUS, read and to be written, `moved` for tables to be moved, `joined` for two messages to be joined, each pair followed by the message that
+has the AVPs of both.
 
 Messages are laid out as RFC 6733 sections 3 and 4 say, with the codes of docs/FORMAT.md and a few others, text at the edges of RFC 3629's ranges, and
 Address data of several families. Some are then damaged: a length, a byte, the end. Packets are laid out as RFC 2865 sections 3 and 5 say, and damaged too;
 a table of a packet to be written is what the model reads of one. Other tables have rows at any depths that may stand one after the other. Some are then
-altered: a parent, a byte of a record, the end of the table or that of the bytes.
+altered: a parent, a byte of a record, the end of the table or that of the bytes. A table to be moved is read of a message or made of any bytes, and often moved
+just as far as its largest place or parent can be.
 """
 import random
 import sys
 
-from model import EDITIONS, KIND, RADIUS, RECORD, SPARE, TOP_LEVEL, Refused, packet, parent, parented
+from model import EDITIONS, KIND, LAST, RADIUS, RECORD, SPARE, TOP_LEVEL, Refused, bytes_of, packet, parent, parented, rows_of, together
+from model import message as decoded
 
 # types of RADIUS, those of text more often, and some that neither RFC has
 TYPES = [*sorted(RADIUS), *(11, 18, 22, 44) * 4, 0, 17, 21, 52, 59, 64, 128, 255]
 # kinds of rows that are no groups
 LEAVES = (0, 1, 4, 7, 10, 14)
 DEEPEST = 64
+# bytes of AVPs that stand many times in a message
+MANY = 8000
 # of Value-Digits, 64 bits with a sign
 LARGEST = 2**63 - 1
 
@@ -244,6 +249,77 @@ def radius(r):
     return "packet-table", room, (wire[:2] + wire[4:20] + len(table).to_bytes(4, "big") + table + pool).hex()
 
 
+def records_of(reading, wire):
+    """The records of a message, none where it is refused."""
+    try:
+        return decoded(reading, DEEPEST, len(wire), wire)[1]
+    except Refused:
+        return []
+
+
+def part(r, flags):
+    """A message with these flags in its header: with few AVPs, with more, or with the same ones many times, and some of them damaged."""
+    wire = message(r, BASE)
+    if r.random() < 0.6:
+        avps = b"".join(run(r, BASE, 1) for _ in range(r.randrange(5)))
+        avps *= r.randint(1, 1 + MANY // (1 + len(avps))) if r.random() < 0.1 else 1
+        wire = wire[:1] + (20 + len(avps)).to_bytes(3, "big") + wire[4:20] + avps
+    wire = damaged(r, wire) if r.random() < 0.5 else wire
+    return wire[:4] + flags + wire[5:] if len(wire) > 4 else wire
+
+
+def odd(r, row):
+    """A record with one field replaced: its place, its depth, byte 23 or its parent."""
+    number = r.choice((0, 1, 2**31, LAST - 1, LAST, r.randrange(2**32))).to_bytes(4, "big")
+    depth, free = bytes([r.choice((0, 1, 2, 65, 255))]), r.randbytes(1)
+    return r.choice((row[:12] + number + row[16:], row[:16] + depth + row[17:], row[:23] + free + row[24:], row[:32] + number))
+
+
+def rows(r):
+    """Those of a message or any bytes, some of them odd."""
+    read = records_of(r.choice(("sawp", "rfc")), part(r, b"\0")) if r.random() < 0.7 else []
+    if not read:
+        read = [r.randbytes(16) + bytes([r.choice((0, 1, 1, 2, 3, 255))]) + r.randbytes(19) for _ in range(r.choice((0, 1, 2, 5)))]
+    return [odd(r, row) if r.random() < 0.2 else row for row in read]
+
+
+def far(r, numbers):
+    """How far numbers are moved: a little, as far as the largest can be or one beside that, or farther than any."""
+    edge = LAST - max(numbers, default=0) + r.choice((0, 0, -1, 1))
+    farther = r.choice((2**31, LAST, 2**63, 2**64 - 1, 2**64 - r.randrange(2**32)))
+    return r.choice((0, r.randrange(1, 9), r.randrange(2**16), edge, edge, edge, 2**32, farther)) % 2**64
+
+
+def moving(r):
+    """A table to be moved, in a store that it fills or in a larger one, now and then with bytes left over."""
+    table = b"".join(rows(r))
+    known = rows_of(table)
+    places, parents = [row["place"] for row in known], [row["parent"] for row in known if row["depth"] != 1]
+    if r.random() < 0.1:
+        table = r.choice((table + r.randbytes(r.randrange(1, RECORD)), table[: -r.randrange(1, RECORD)]))
+    room = max(0, len(table) - SPARE + RECORD - 1) // RECORD
+    return "moved", far(r, places), far(r, parents), room + r.choice((0, 0, 1)), table.hex() or "-"
+
+
+def joining(r):
+    """Two messages with the same flags in their headers, and room for the records of both, for one less or more, for the first one's or for any number."""
+    flags, reading = bytes([r.choice((0, 0x80, r.randrange(256)))]), r.choice(("sawp", "rfc"))
+    first, second = part(r, flags), part(r, flags)
+    need = len(records_of(reading, first))
+    both = need + len(records_of(reading, second))
+    room = r.choice((both, both, both, both + 1, max(0, both - 1), need, r.randrange(13)))
+    return "joined", reading, r.choice((*(64,) * 12, 7, 3, 3, 2, 2, 1, 0, 65)), room, first.hex() or "-", second.hex() or "-"
+
+
+def beside(case):
+    """Of two messages, the one that has the AVPs of both, if the headers of the two are accepted."""
+    if case[0] == "joined":
+        try:
+            yield "message", *case[1:4], together(*map(bytes_of, case[4:])).hex()
+        except Refused:
+            return
+
+
 def sizes():
     """Each type of RADIUS with data of each size, in a packet of its own: letters, and letters with a last byte that is no text."""
     for code in range(256):
@@ -253,14 +329,24 @@ def sizes():
                 yield "packet", 1, wire.hex()
 
 
-MAKERS = {"read": read, "search": search, "edition": read_by, "compare": comparison, "table": writing, "radius": radius}
+MAKERS = {
+    "read": read, "search": search, "edition": read_by, "compare": comparison, "table": writing, "radius": radius, "moved": moving, "joined": joining,
+}
+
+
+def made(sort, seed, count):
+    """So many cases of a sort, and what stands beside them."""
+    r = random.Random(seed)
+    for _ in range(count):
+        case = MAKERS[sort](r)
+        yield case
+        yield from beside(case)
 
 
 def main():
     seed, count, sort = (*sys.argv[1:], "read")[:3]
-    r = random.Random(int(seed))
-    for _ in range(int(count)):
-        print(*MAKERS[sort](r))
+    for case in made(sort, int(seed), int(count)):
+        print(*case)
 
 
 if __name__ == "__main__":

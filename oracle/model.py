@@ -1,18 +1,18 @@
 """A model of the format (docs/FORMAT.md), written from its text and from RFC 6733, RFC 3629, RFC 4006, RFC 8506, RFC 2865 and RFC 2866. It shares no code with ours.
 
 It answers a case as docs/FORMAT.md says: message, header alone or one AVP alone, in either reading, message or one AVP alone by an edition, a table to be
-written, a search, a comparison, or a RADIUS packet, read or to be written. It is slow and plain on purpose: a search decodes the whole message and looks
-for the record, a parent is found by walking back over the depths, and a comparison works with fractions. `oracle/run replay` makes with it frames that
-crates/replay reads and answers that it must write:
+written, a search, a comparison, a RADIUS packet, read or to be written, a table to be moved, or two messages to be joined. It is slow and plain on purpose:
+a search decodes the whole message and looks for the record, a parent is found by walking back over the depths, a comparison works with fractions, and two
+messages are joined before they are decoded. `oracle/run replay` makes with it frames that crates/replay reads and answers that it must write:
 
     python3 oracle/model.py frames < oracle/cases.txt
     python3 oracle/model.py answers < oracle/cases.txt
 
 A frame: function (0 message, 1 header alone, 2 one AVP, 3 a table to be written, 4 a search, 5 steps, 6 a message by an edition, 7 one AVP by an edition,
-8 a comparison, 9 a packet, 10 a packet to be written), reading (0 sawp, 1 RFC) and depth limit in a byte each, room in records in 2 bytes, length in 4,
-and the bytes. An answer: the number in a byte and the amount in 4; where the number is 0, the header's 20 bytes (not for one AVP), the flags in a byte,
-the number of records in 2, headers tried in 4, the length in 4; and always the whole store afterwards, which has 5 bytes more than its records take and
-was lent full of the byte A5.
+8 a comparison, 9 a packet, 10 a packet to be written, 11 a table to be moved, 12 two messages to be joined), reading (0 sawp, 1 RFC) and depth limit in a
+byte each, room in records in 2 bytes, length in 4, and the bytes. An answer: the number in a byte and the amount in 4; where the number is 0, the header's
+20 bytes (not for one AVP), the flags in a byte, the number of records in 2, headers tried in 4, the length in 4; and always the whole store afterwards,
+which has 5 bytes more than its records take and was lent full of the byte A5.
 
 For a table the bytes are flags in 1, command code, application, hop-by-hop, end-to-end and the table's length in 4 each, the table and the bytes that its
 places point into; the store is the output, and an acceptance answers the total in 4 bytes. For a search the bytes are a code in 4 and a message; an
@@ -26,6 +26,14 @@ less, 1 equal or 2 greater in a byte, and the store stays as it was lent.
 Of a packet of RADIUS an acceptance answers code and identifier in a byte each in place of the header; its authenticator, 16 bytes that are 0 in a refusal,
 stands before the store in any case. For a packet to be written the bytes are code, identifier, authenticator, the table's length in 4, the table and the
 bytes that its places point into; the answer is that for a table. The reading and the depth limit mean nothing for both.
+
+For a table to be moved the bytes are how many bytes and how many records it is moved by, in 8 each, and the table, for which the store has room. The store
+holds the table at its front, moved or, refused, as it was, and behind it what was lent. An acceptance answers the number of records in 4.
+
+For two messages the bytes are the first one's size in 4, the first and the second. Each may be refused by itself, the first one first. The second has the room
+that the first one's records leave, so the amount of its NoRecords is its own number of records. Accepted, the answer is that for a message which has the
+first one's header and the AVPs of both, without the header. The two have the same flags in their headers, which so are the joined ones. Where the second is
+refused, the store holds the first one's records and zeros.
 """
 import re
 import sys
@@ -74,8 +82,8 @@ KINDS_RADIUS = {
     13: [4, 8, 9, 14],
 }
 SMALLEST_PACKET, LARGEST_PACKET = 20, 4096
-# the bytes of a record, and the parent of one at depth 1
-RECORD, TOP_LEVEL = 36, 0xFFFFFFFF
+# the bytes of a record, the parent of one at depth 1, and the largest place and parent
+RECORD, TOP_LEVEL, LAST = 36, 0xFFFFFFFF, 2**32 - 1
 
 
 def by_code(kinds):
@@ -440,10 +448,30 @@ def packet_written(data, room):
     return data[:2] + total.to_bytes(2, "big") + data[2:18] + body
 
 
+def moved(data):
+    """A table, every place and every parent in it more by a number; at depth 1 the parent stays."""
+    more, records, table, out = be(data[:8]), be(data[8:16]), data[16:], b""
+    if len(table) % RECORD:
+        raise Refused(BAD_TABLE, len(table) // RECORD)
+    for at in range(0, len(table), RECORD):
+        r = table[at : at + RECORD]
+        place, above = be(r[12:16]) + more, be(r[32:36]) + (0 if r[16] == 1 else records)
+        if place > LAST or above > LAST:
+            raise Refused(TOO_LONG)
+        out += r[:12] + place.to_bytes(4, "big") + r[16:32] + above.to_bytes(4, "big")
+    return out
+
+
+def together(first, second):
+    """A message with the first one's header and the AVPs of both."""
+    avps = first[20 : header(first)[0]] + second[20 : header(second)[0]]
+    return first[:1] + (20 + len(avps)).to_bytes(3, "big") + first[4:20] + avps
+
+
 LENT, SPARE = 0xA5, 5
 # (00)*3 in a case is 000000
 REPEATED = re.compile(r"\(([0-9a-f]+)\)\*([0-9]+),?")
-FUNCTIONS = ("message", "header", "avp", "table", "find", "steps", "message-by", "avp-by", "compare", "packet", "packet-table")
+FUNCTIONS = ("message", "header", "avp", "table", "find", "steps", "message-by", "avp-by", "compare", "packet", "packet-table", "moved", "joined")
 READINGS = ("sawp", "rfc")
 WRITERS = {"table": written, "packet-table": packet_written}
 
@@ -477,8 +505,40 @@ def counts(flags, records, tried, length):
     return bytes([flags]) + len(records).to_bytes(2, "big") + tried.to_bytes(4, "big") + length.to_bytes(4, "big")
 
 
+def refusal(r):
+    return bytes([r.number]) + r.amount.to_bytes(4, "big")
+
+
+def moved_answer(data, size):
+    """The store holds the table, moved or as it was."""
+    try:
+        table = moved(data)
+        said = bytes(5) + (len(table) // RECORD).to_bytes(4, "big")
+    except Refused as r:
+        said, table = refusal(r), data[16:]
+    return said + table.ljust(size, bytes([LENT]))
+
+
+def joined_answer(reading, limit, room, data, size):
+    """Each message is read by itself, which may refuse it, and then the one that has the AVPs of both. No table is made of two."""
+    end = 4 + be(data[:4])
+    first, second, store = data[4:end], data[end:], bytes([LENT]) * size
+    try:
+        records = message(reading, limit, room, first)[1]
+        store = b"".join(records).ljust(size, b"\0")
+        message(reading, limit, room - len(records), second)
+        read = message(reading, limit, room, together(first, second))
+    except Refused as r:
+        return refusal(r) + store
+    return bytes(5) + counts(*read) + b"".join(read[1]).ljust(size, b"\0")
+
+
 def answer(function, reading, limit, room, data):
     size = room * RECORD + SPARE
+    if function == "moved":
+        return moved_answer(data, size)
+    if function == "joined":
+        return joined_answer(reading, limit, room, data, size)
     try:
         if function in WRITERS:
             out = WRITERS[function](data, size)
@@ -491,7 +551,7 @@ def answer(function, reading, limit, room, data):
             return bytes(5) + bytes([comparison(data)]) + bytes([LENT]) * size
         head, read = decoded(function, reading, limit, room, data)
     except Refused as r:
-        return bytes([r.number]) + r.amount.to_bytes(4, "big") + authenticator(function, bytes(20)) + bytes([LENT]) * size
+        return refusal(r) + authenticator(function, bytes(20)) + bytes([LENT]) * size
     out = bytes(5) + head + counts(*read) + authenticator(function, data)
     if function == "header":
         return out + bytes([LENT]) * size
@@ -503,12 +563,23 @@ def unit_values(words):
     return b"".join(int(word).to_bytes(size, "big", signed=True) for word, size in zip(words, (8, 4, 8, 4)))
 
 
+def bytes_of(text):
+    return b"" if text == "-" else bytes.fromhex(REPEATED.sub(lambda m: m[1] * int(m[2]), text))
+
+
 def case(function, *words):
     """A case from the words of its line."""
     if function == "compare":
         return function, "rfc", 0, 0, unit_values(words)
+    if function == "moved":
+        more, records, room, table = words
+        return function, "rfc", 0, int(room), int(more).to_bytes(8, "big") + int(records).to_bytes(8, "big") + bytes_of(table)
+    if function == "joined":
+        reading, limit, room, *pair = words
+        first, second = map(bytes_of, pair)
+        return function, reading, int(limit), int(room), len(first).to_bytes(4, "big") + first + second
     reading, limit, room, text = ("rfc", 0, *words) if function in ("packet", "packet-table") else words
-    data = b"" if text == "-" else bytes.fromhex(REPEATED.sub(lambda m: m[1] * int(m[2]), text))
+    data = bytes_of(text)
     if function in ("message-by", "avp-by"):
         reading, data = "rfc", int(reading).to_bytes(4, "big") + data
     return function, reading, int(limit), int(room), data

@@ -9,7 +9,8 @@ pictures in sections 3 and 4.1 the flag bits. RFC4006 and RFC8506 are the texts 
 data types of each edition. RFC2865 and RFC2866 are the texts of those: their pictures of section 5 give the types of RADIUS and what
 their data are. RUST is sawp-diameter/src/lib.rs: its enums give the names of its codes and the numbers of the kinds, and
 `Value::new` the kind of each name. docs/FORMAT.md gives the rest: that in the RFC reading another vendor's AVP is Unhandled, the
-refusals, and, by oracle/model.py, what is read and written of P8 and how Unit-Values compare. Nothing is taken from our code.
+refusals, and, by oracle/model.py, what is read and written of P8, how a table is moved and how Unit-Values compare.
+Nothing is taken from our code.
 """
 import calendar
 import functools
@@ -23,6 +24,7 @@ CODES, EDITION_CODES, STORE, LENT = 513, 701, 41, 0xA5
 P8 = bytes.fromhex("01000024" + "00" * 16 + "0000010c0000000d000007d100000000")
 BROKEN = bytes.fromhex("01000025" + "00" * 16 + "0000010c0000000d000007d10000000000")
 RECORD = bytes.fromhex("0000010c0000000d000000000000001c" + "0104020300000000" + "00000000000007d1" + "ffffffff")
+ROWS = b"abcdefghijkl\0\0\0\x1c\1mnopqrstuvwxyzA\xff\xff\xff\xff" + b"BCDEFGHIJKLM\0\0\0\x24\2NOPQRSTUVWXYZab\0\0\0\0"
 PACKET = bytes.fromhex("0407001f" + "101112131415161718191a1b1c1d1e1f" + "2c044133" + "2e070000000100" + "ff")
 # What each refusal returns, by its number from 1 on, where it was made with 12.
 AMOUNTS = [12, 0, 0, 0, 0, 12, 0, 0, 12, 0, 12, 0, 0]
@@ -168,13 +170,16 @@ def numbers(starts):
         line("refusal", number, amount)
 
 
-def answered(ask, size, head):
-    """The thirteen numbers of a result, and what lent memory of that size holds afterwards."""
-    lent = bytes([LENT]) * size
+def lent(size):
+    return bytes([LENT]) * size
+
+
+def answered(ask, was, head):
+    """The thirteen numbers of a result, and what memory holds afterwards, which a refusal leaves as it was."""
     try:
         errors, records, tried, length, memory = ask()
     except model.Refused as r:
-        return [r.number, r.amount] + [0] * 11, lent
+        return [r.number, r.amount] + [0] * 11, was
     fields = [model.be(head[a:b]) for a, b in ((0, 1), (1, 4), (4, 5), (5, 8), (8, 12), (12, 16), (16, 20))] if head else [0] * 7
     return [0, 0, errors, records, tried, length] + fields, memory
 
@@ -210,9 +215,11 @@ def show(label, words, result):
 
 def readings():
     for rfc, limit in ((0, 64), (1, 64), (1, 0)):
-        show("message", (rfc, limit), answered(lambda: read(model.message, model.READINGS[rfc], limit, P8), STORE, P8))
+        ask = functools.partial(read, model.message, model.READINGS[rfc], limit, P8)
+        show("message", (rfc, limit), answered(ask, lent(STORE), P8))
     for rfc, limit in ((0, 64), (1, 65)):
-        show("one-avp", (rfc, limit), answered(lambda: read(model.avp_alone, model.READINGS[rfc], limit, P8[20:]), STORE, None))
+        ask = functools.partial(read, model.avp_alone, model.READINGS[rfc], limit, P8[20:])
+        show("one-avp", (rfc, limit), answered(ask, lent(STORE), None))
 
 
 def searches():
@@ -232,14 +239,26 @@ def writes():
             out = model.written(bytes([0x80]) + ids + RECORD + P8, size)
             return 0, 0, 0, len(out), out.ljust(size, bytes([LENT]))
 
-        show("write", (), answered(write, size, None))
+        show("write", (), answered(write, lent(size), None))
+
+
+def shifts():
+    """Two rows, moved; the second one's place and then its parent past four bytes; the last byte absent."""
+    for size, more, records in ((72, 44, 3), (72, 2**32 - 36, 3), (72, 44, 2**32), (71, 44, 3)):
+        table = ROWS[:size]
+
+        def shift():
+            moved = model.moved(more.to_bytes(8, "big") + records.to_bytes(8, "big") + table)
+            return 0, len(moved) // model.RECORD, 0, 0, moved
+
+        show("shift", (more, records), answered(shift, table, None))
 
 
 def by_edition():
     for label, ask, data, head in (("message-by", model.message, P8, P8), ("avp-by", model.avp_alone, P8[20:], None)):
         by = functools.partial(model.by_edition, ask)
         for edition, limit in ((4006, 64), (8506, 64), (1, 64), (8506, 0), (1, 0)):
-            show(label, (edition, limit), answered(lambda: read(by, edition, limit, data), STORE, head))
+            show(label, (edition, limit), answered(lambda: read(by, edition, limit, data), lent(STORE), head))
 
 
 def comparisons():
@@ -268,9 +287,10 @@ def texts(rows, order):
 
 def library():
     readings()
-    line("header-alone", *answered(lambda: (model.header_alone(P8)[0], 0, 0, 20, b""), 0, P8)[0])
+    line("header-alone", *answered(lambda: (model.header_alone(P8)[0], 0, 0, 20, b""), b"", P8)[0])
     searches()
     writes()
+    shifts()
     by_edition()
     comparisons()
 
@@ -297,7 +317,7 @@ def packet_line(label, ask, size, more):
     try:
         numbers, memory, authenticator = ask()
     except model.Refused as r:
-        numbers, memory, authenticator = [r.number, r.amount] + [0] * 6, bytes([LENT]) * size, bytes([LENT]) * more
+        numbers, memory, authenticator = [r.number, r.amount] + [0] * 6, lent(size), lent(more)
     line(label, *numbers, "leaves", *memory, *authenticator)
 
 

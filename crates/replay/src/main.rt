@@ -1,5 +1,6 @@
 // Answers framed cases from standard input on standard output: the bridge to the oracle and, with the frames kept beside it, a
 // test of the decoders. oracle/README.md has the frame and the answer. It stops at the end of the input or at a frame that it can't hold.
+mod joining;
 mod packets;
 
 use attribute::Reading;
@@ -115,7 +116,7 @@ fn write_outline(o: Outline) {
     write_u24(o.pads);
 }
 
-// A code or an edition stands in the input before what is read by it.
+// A code, an edition or a size stands in the input before what is read by it.
 const NUMBER: usize = 4;
 
 fn number_of(input: &[u8]) -> u32
@@ -291,6 +292,8 @@ fn answer(frame: [u8; FRAME_SIZE], input: &[u8], store: &mut [u8]) {
         8 => comparison(input),
         9 => packets::packet(input, store),
         10 => packets::table(input, store),
+        11 => joining::moved(input, store),
+        12 => joining::joined(reading, limit, input, store),
         _ => table(input, store),
     }
 }

@@ -137,6 +137,30 @@ fn writes() {
     write(&mut [LENT; 35]);
 }
 
+// A group at depth 1 and its member at depth 2. The bytes that no move changes are letters, but for the depths.
+const ROWS: [u8; 2 * Record::SIZE] =
+    *b"abcdefghijkl\0\0\0\x1C\x01mnopqrstuvwxyzA\xFF\xFF\xFF\xFFBCDEFGHIJKLM\0\0\0\x24\x02NOPQRSTUVWXYZab\0\0\0\0";
+
+fn shift(table: &mut [u8], bytes: usize, records: usize) {
+    let mut result = [0u64; RESULT];
+    tandrekily::tandrekily_shift(table, bytes, records, &mut result);
+    print::label(b"shift");
+    print::number(bytes as u64);
+    print::number(records as u64);
+    show(&result, table);
+}
+
+// The rows are moved. Then the member's place doesn't fit its four bytes, and then its parent doesn't.
+// Then the last byte is absent.
+fn shifts() {
+    let mut rows = ROWS;
+    shift(&mut rows, 44, 3);
+    rows = ROWS;
+    shift(&mut rows, 0xFFFF_FFDC, 3);
+    shift(&mut rows, 44, 0x1_0000_0000);
+    shift(&mut rows[0..2 * Record::SIZE - 1], 44, 3);
+}
+
 // What the order holds before a comparison.
 const NO_ORDER: i32 = 7;
 
@@ -199,6 +223,7 @@ pub(super) fn lines() {
     next(21);
     next(36);
     writes();
+    shifts();
     by_edition();
     comparisons();
     bad_exponents();
