@@ -1,4 +1,5 @@
 // `ours find FILE N`: finds its Session-Id N times. Prints how many AVPs were stepped over.
+// `ours shift FILE N`: decodes it once and moves its table N times. Prints how many records the table has.
 // `ours records FILE`: writes what was decoded, as `oracle records` does for the Rust.
 #include "file.h"
 #include "messages.h"
@@ -36,6 +37,19 @@ static void find(int times) {
     printf("%d\n", passed(outline));
 }
 
+// Each time a byte and a record further, so that no time does the work of another.
+static void shift(int times) {
+    uint64_t read[TANDREKILY_RESULT], moved[TANDREKILY_RESULT];
+    size_t room;
+    uint8_t *store = lend(input, length, &room);
+    tandrekily_message(false, DEPTH, input, length, store, room, read);
+    size_t size = (size_t)read[TANDREKILY_RECORDS] * TANDREKILY_RECORD_SIZE;
+    for (; times > 0; times--) tandrekily_shift(store, size, 1, 1, moved);
+    if (moved[TANDREKILY_NUMBER] != TANDREKILY_ACCEPTED) stop("the table is refused");
+    printf("%" PRIu64 "\n", moved[TANDREKILY_RECORDS]);
+    free(store);
+}
+
 // A big-endian number of so many bytes.
 static void put(uint64_t number, int bytes) {
     while (bytes-- > 0) putchar((int)(number >> (8 * bytes) & 0xFF));
@@ -54,10 +68,12 @@ static void put_all(void) {
 }
 
 int main(int count, char **words) {
-    bool finding = count == 4 && strcmp(words[1], "find") == 0;
-    if (!finding && (count != 3 || strcmp(words[1], "records") != 0)) stop("usage: ours find FILE N, or ours records FILE");
+    bool finding = count == 4 && strcmp(words[1], "find") == 0, moving = count == 4 && strcmp(words[1], "shift") == 0;
+    if (!finding && !moving && (count != 3 || strcmp(words[1], "records") != 0))
+        stop("usage: ours find|shift FILE N, or ours records FILE");
     length = load(words[2], input);
     if (finding) find(atoi(words[3]));
+    else if (moving) shift(atoi(words[3]));
     else put_all();
     return 0;
 }
