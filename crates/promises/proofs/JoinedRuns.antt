@@ -1,16 +1,15 @@
 -- Joining two runs, of `avps::parse_avps` itself, which decodes a run by any dictionary. Two runs that it accepts are
--- accepted joined, and the answer and the records are the two's, merged: the contracts and the law of the definition
--- (rfc6733/proofs/Joining). And of runs of attributes (RADIUS): their records are joined in the same way, so the same
--- function moves their tables.
+-- accepted joined, and the answer and the records are the two's, merged. Between the contracts stands the law of the
+-- definition (rfc6733/proofs/Joining).
 use Prim.Native.Nat.{ℕ, _+_, _-_, _≤_}
 use mathlib.Core.Path.{_≡_, refl, sym, ap, ap₂, _∙_}
 use mathlib.Core.Bool.{true}
-use mathlib.Core.List.{List, [], _∷_, _++_, map}
+use mathlib.Core.List.{List, _++_, map}
 use native.Mathlib.Omega.{arith}
 use lib.ListN.{length, replicate}
 use contract.Lifetimes.{Lfts}
 use denote.Ref.{now}
-use Rattle.octets.specs.Run.{tree, tiles, deepest, items}
+use Rattle.octets.specs.Run.{tree, deepest}
 use Rattle.refusal.specs.Answer.{accepted}
 use Rattle.refusal.proofs.Answers.{passed, accepts, passes-append}
 use Rattle.refusal.proofs.Tests.{tests}
@@ -24,10 +23,6 @@ use Rattle.rfc6733.specs.Dictionary.{Dictionary}
 use Rattle.rfc6733.specs.Records.{avps, tiling}
 use Rattle.rfc6733.proofs.Tiling.{tiles-any}
 use Rattle.rfc6733.proofs.Joining.{Joins, joining}
-use Rattle.rfc2865.specs.Attribute.{headSize, attributes}
-use Rattle.rfc2865.specs.Records as attribute-of
-use Rattle.rfc2865.specs.Records.{recordOf}
-use Rattle.rfc2865.proofs.Joining as of-attributes
 use Rattle.attribute.specs.declared.Dictionary as attribute
 use Rattle.attribute.specs.ByTable.{dictionaryBy}
 use Rattle.fits.specs.Fitting.{refusals}
@@ -148,26 +143,3 @@ joined-runs d kinds limit place b c r first second both is there fits =
           both .answered .1
           ∙ ap₂ (λ (a : Filled) (rs : List Record). stored (answerOf a) rs (now (both .store))) is-total records-are;
     }
-
--- ---- attributes
-
--- all are at depth 1, so the count doesn't matter
-attributes-shifted : (bytes count place : ℕ) (run : List (List ℕ))
-    → attribute-of.records (place + bytes) run ≡ map (shifted bytes count) (attribute-of.records place run)
-unfolding recordOf shifted
-attributes-shifted bytes count place [] = refl
-attributes-shifted bytes count place (a ∷ run) =
-    let here : place + bytes + headSize ≡ bytes + (place + headSize) = omega arith in
-    let next : place + bytes + length a ≡ place + length a + bytes = omega arith in
-    rw (here, next, attributes-shifted bytes count (place + length a) run)
-
-pub joined-attributes : (place count : ℕ) (s x : List ℕ) → tiles (tree attributes s) ≡ true
-    → tiles (tree attributes x) ≡ true
-    → let rs = attribute-of.records place (items (tree attributes s)) in
-    let ts = attribute-of.records place (items (tree attributes x)) in
-    attribute-of.records place (items (tree attributes (s ++ x))) ≡ rs ++ map (shifted (length s) count) ts
-joined-attributes place count s x first second =
-    let run = items (tree attributes x) in
-    of-attributes.joining place s x first second .records-are
-    ∙ ap (λ (ts : List Record). attribute-of.records place (items (tree attributes s)) ++ ts)
-    (attributes-shifted (length s) count place run)

@@ -17,3 +17,4 @@ mod Tables
 pub mod Joining
 pub mod JoinedRefusals
 pub mod JoinedRuns
+pub mod JoinedAttributes
