@@ -1,18 +1,20 @@
 // Diameter's Address (RFC 6733, section 4.3.1): what data that should be one are.
 // This crate knows the data of an Address, and nothing of other kinds or of error flags.
+#![tactic(auto)]
+
 ghost use Rattle.std.specs.Prelude.{◌≡◌};
 ghost use Rattle.rfc6733.specs.Dictionary.{bare_address, family_address};
 ghost use Rattle.address.specs.Addresses.{address_number, Finds};
 
 /// An IPv4 address as a number. An IPv6 address stays in the input.
-#[derive(Drop)]
+#[derive(Clone, Copy)]
 pub enum IpAddr {
     V4(u32),
     V6,
 }
 
 /// What data that should be an Address are.
-#[derive(Drop)]
+#[derive(Clone, Copy)]
 pub enum Found {
     Address(IpAddr),
     BadLength,

@@ -1,5 +1,7 @@
 // How many bytes of ASCII are at the front of a text, for speed, since most texts are mostly ASCII. A byte of UTF8-1 is a character, so to pass
 // a run of them, thirty-two at once and then four, changes no answer. This crate knows nothing of Diameter.
+#![tactic(auto)]
+
 ghost use Rattle.std.specs.Prelude.{◌≡◌, leb};
 ghost use Rattle.ascii.specs.Ascii.{ascii_run};
 

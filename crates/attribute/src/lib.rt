@@ -1,5 +1,7 @@
 // AVP attributes: their names, and the dictionary of each reading, as a table of kinds by code and what is beside it.
 // This crate knows dictionaries, and nothing of bytes.
+#![tactic(auto)]
+
 pub mod kinds;
 
 ghost use Rattle.std.specs.Prelude.{◌≡◌, get_or};
@@ -19,7 +21,7 @@ const DESTINATION_REALM: u32 = 283;
 const SAWP_DESTINATION_REALM: u32 = 235;
 
 /// Which document decides: the Rust crate sawp-diameter, or RFC 6733.
-#[derive(Drop)]
+#[derive(Clone, Copy)]
 pub enum Reading {
     Sawp,
     Rfc,
@@ -27,7 +29,7 @@ pub enum Reading {
 
 /// What a dictionary has beside its kinds: are a vendor's codes its own, and does an Address start with its family? The kinds are lent
 /// beside it, as a table by code.
-#[derive(Drop)]
+#[derive(Clone, Copy)]
 pub struct Dictionary {
     pub vendors: bool,
     pub families: bool,
@@ -52,7 +54,7 @@ impl Reading {
 }
 
 /// AVP Attribute Names as stated in RFC 6733, section 4.5.
-#[derive(Drop)]
+#[derive(Clone, Copy)]
 pub enum AttributeCode {
     Unknown,
     AcctInterimInterval,
@@ -106,7 +108,7 @@ pub enum AttributeCode {
     VendorSpecificApplicationId,
 }
 
-#[derive(Drop)]
+#[derive(Clone, Copy)]
 pub struct Attribute {
     /// Value of the code in AVP header
     pub raw: u32,

@@ -1,11 +1,13 @@
 // The AVP: its constants, its flag questions, the size of its header and of its padding.
 // This crate knows numbers alone: `front` reads an AVP.
+#![tactic(auto)]
+
 ghost use Rattle.std.specs.Prelude.{◌≡◌};
 ghost use Rattle.flags.specs.Flags.{bit};
 ghost use Rattle.rfc6733.specs.Avp.{vendor_bit, mandatory_bit, protected_bit, avp_reserved, head_size, padding};
 
 /// The header of one AVP, and its size with its padding.
-#[derive(Drop)]
+#[derive(Clone, Copy)]
 pub struct AVP {
     pub code: u32,
     pub flags: u8,

@@ -1,5 +1,7 @@
 // Decoding one AVP alone, at depth 1: from a lent slice to records in a lent store, error flags, counts and its padded size.
 // The limit and the header are tested here; `avps` reads the AVP, and writes nothing until everything is known to fit.
+#![tactic(auto)]
+
 ghost use Rattle.std.specs.Prelude.{◌≡◌, true};
 ghost use Rattle.rfc6733.specs.CreditControl.{edition_of};
 ghost use Rattle.rfc6733.specs.Decoder.{allowed, avp_alone};

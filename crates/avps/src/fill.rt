@@ -19,14 +19,14 @@ use record::kinds::{GROUPED, UNHANDLED};
 use value::Value;
 
 // How many records, and their error flags joined.
-#[derive(Drop)]
+#[derive(Clone, Copy)]
 pub(super) struct Ran {
     pub records: usize,
     pub errors: u8,
 }
 
 // What an AVP's data are, and how many records its members have.
-#[derive(Drop)]
+#[derive(Clone, Copy)]
 pub(super) struct Valued {
     pub kind: u8,
     pub number: u64,

@@ -1,5 +1,7 @@
 // Reading a run of AVPs: it is counted first, and where it tiles and fits, its records are put into a lent store.
 // This crate knows no message. It writes nothing until everything is known to fit, so a refusal has changed no byte.
+#![tactic(auto)]
+
 mod fill;
 mod known;
 
@@ -19,7 +21,7 @@ use record::Record;
 use refusal::Refusal;
 
 /// An accepted run: its error flags, number of records, headers tried and length.
-#[derive(Drop)]
+#[derive(Clone, Copy)]
 pub struct Counts {
     pub errors: u8,
     pub records: usize,
@@ -28,7 +30,7 @@ pub struct Counts {
 }
 
 /// What reading a run answers.
-#[derive(Drop)]
+#[derive(Clone, Copy)]
 pub enum Filled {
     Accepted(Counts),
     Refused(Refusal),

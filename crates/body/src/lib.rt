@@ -1,5 +1,7 @@
 // What an AVP has behind its header, as the writer puts it: the data, and the padding.
 // This crate knows bytes alone, and puts no more of them than there is room for.
+#![tactic(auto)]
+
 ghost use Rattle.std.specs.Prelude.{◌≡◌, length, take};
 ghost use Rattle.octets.specs.Octets.{octets, over, put_all};
 

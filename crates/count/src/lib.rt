@@ -1,5 +1,7 @@
 // Counting a run before anything is written: does it tile, how many records has it, how many headers are tried?
 // This crate looks at headers and never at values, and writes nothing. The depth limit bounds how deep it calls itself.
+#![tactic(auto)]
+
 ghost use Rattle.std.specs.Prelude.{◌≡◌, true};
 ghost use Rattle.octets.specs.Run.{tree};
 ghost use Rattle.rfc6733.specs.Records.{avps};
@@ -16,14 +18,14 @@ use record::kinds::GROUPED;
 use refusal::Refusal;
 
 /// How many records a run has and how many headers are tried, or why it is refused.
-#[derive(Drop)]
+#[derive(Clone, Copy)]
 pub enum Counted {
     Fits { records: usize, tried: usize },
     Refused(Refusal),
 }
 
 // What the levels that are left hold of a run, or that a header is tried deeper.
-#[derive(Drop)]
+#[derive(Clone, Copy)]
 enum Level {
     TooDeep,
     Within {

@@ -1,5 +1,7 @@
 // Decoding a message: from a lent slice to a header, records in a lent store, error flags, counts and a length.
 // The header and the limit are tested here; `avps` reads the AVPs, and writes nothing until everything is known to fit.
+#![tactic(auto)]
+
 ghost use Rattle.std.specs.Prelude.{◌≡◌, true, length};
 ghost use Rattle.rfc6733.specs.CreditControl.{edition_of};
 ghost use Rattle.rfc6733.specs.Decoder.{allowed, decoded};
@@ -17,7 +19,7 @@ use header::{Header, Parsed};
 use refusal::Refusal;
 
 /// An accepted message: its header, error flags, number of records, headers tried and consumed length.
-#[derive(Drop)]
+#[derive(Clone, Copy)]
 pub struct Message {
     pub header: Header,
     pub errors: u8,
@@ -27,7 +29,7 @@ pub struct Message {
 }
 
 /// What decoding a message answers.
-#[derive(Drop)]
+#[derive(Clone, Copy)]
 pub enum Decoded {
     Accepted(Message),
     Refused(Refusal),

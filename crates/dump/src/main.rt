@@ -1,4 +1,6 @@
 // Dumps the message on standard input (docs/FORMAT.md, 9): the text is that of `lines`.
+#![tactic(auto)]
+
 const OUT: i32 = 1;
 
 const ERR: i32 = 2;

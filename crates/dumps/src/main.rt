@@ -1,5 +1,7 @@
 // Writes the dump's text of each message on standard input: a test of `lines` on what oracle/dumps.py makes.
 // A message stands there with its length before it. It stops at the end of the input or at a message that it can't hold.
+#![tactic(auto)]
+
 const FRAME_SIZE: usize = 4;
 
 const BUFFER_SIZE: usize = 65536;

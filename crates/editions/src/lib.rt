@@ -1,5 +1,7 @@
 // The editions of the credit-control dictionary, RFC 4006 and RFC 8506: their numbers, and the kinds by code.
 // This crate knows which edition has which codes; what a dictionary has beside its kinds is the RFC reading's.
+#![tactic(auto)]
+
 mod kinds;
 
 ghost use Rattle.std.specs.Prelude.{◌≡◌};
@@ -11,14 +13,14 @@ use record::kinds::UNHANDLED;
 use refusal::Refusal;
 
 /// An edition. Older gateways stay with RFC 4006.
-#[derive(Drop)]
+#[derive(Clone, Copy)]
 pub enum Edition {
     Rfc4006,
     Rfc8506,
 }
 
 /// What a number chooses.
-#[derive(Drop)]
+#[derive(Clone, Copy)]
 pub enum Chosen {
     Edition(Edition),
     None,

@@ -1,5 +1,7 @@
 // Whether a run of AVPs can be read into a store: its places must fit a record, it must tile within the limit, and its records must have room.
 // This crate counts, and writes nothing.
+#![tactic(auto)]
+
 ghost use Rattle.std.specs.Prelude.{◌≡◌};
 ghost use Rattle.attribute.specs.ByTable.{dictionary_by};
 ghost use Rattle.count.specs.Counts.{answer_of};

@@ -1,10 +1,12 @@
 // The error flags (docs/FORMAT.md, 3), a number below 16, and how they join.
 // This crate knows no layout and no reading.
+#![tactic(auto)]
+
 ghost use Rattle.std.specs.Prelude.{◌≡◌};
 ghost use Rattle.flags.specs.Flags.{flag, join};
 
 /// Flags identify messages which parse successfully but contain invalid data.
-#[derive(Drop)]
+#[derive(Clone, Copy)]
 pub enum ErrorFlags {
     DataValue = 0b0000_0001,
     DataLength = 0b0000_0010,

@@ -1,5 +1,6 @@
 // The AVP at the front of a slice, its padding, and whether AVPs tile.
 // This crate knows an AVP's header and padding, and nothing of what its data mean.
+#![tactic(auto)]
 
 ghost use Rattle.std.specs.Prelude.{◌+◌, ◌≤◌, ◌≡◌, false, length};
 ghost use Rattle.octets.specs.Octets.{be};
@@ -13,14 +14,14 @@ use octets::at_hand::Available;
 use refusal::Refusal;
 
 /// What is at the front of a slice, as a run asks it: a complete AVP, or none.
-#[derive(Drop)]
+#[derive(Clone, Copy)]
 pub enum First {
     Whole(AVP),
     Broken,
 }
 
 /// What is at the front of a slice: a complete AVP, or the refusal.
-#[derive(Drop)]
+#[derive(Clone, Copy)]
 pub enum ParsedAvp {
     Accepted(AVP),
     Refused(Refusal),

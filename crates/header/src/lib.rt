@@ -1,5 +1,7 @@
 // The Diameter header: its constants, its flag questions, and reading it alone.
 // This crate knows the header's 20 bytes, and nothing of AVPs.
+#![tactic(auto)]
+
 ghost use Rattle.std.specs.Prelude.{◌≡◌, not, ◌≤◌, length, eqb};
 ghost use Rattle.flags.specs.Flags.{bit, flag, non_zero_reserved};
 ghost use Rattle.rfc6733.specs.Header.{request_bit, proxiable_bit, error_bit, retransmitted_bit, header_reserved, header_size, header_of, avps_length};
@@ -10,7 +12,7 @@ use flags::ErrorFlags;
 use octets::at_hand::Available;
 use refusal::Refusal;
 
-#[derive(Drop)]
+#[derive(Clone, Copy)]
 pub struct Header {
     pub version: u8,
     /// Actually u24
@@ -24,7 +26,7 @@ pub struct Header {
 }
 
 /// What reading a header answers: the header with its own error flags, or the refusal.
-#[derive(Drop)]
+#[derive(Clone, Copy)]
 pub enum Parsed {
     Accepted { header: Header, errors: u8 },
     Refused(Refusal),

@@ -1,5 +1,7 @@
 // The headers of a message and of an AVP, as the writer puts them.
 // This crate knows their fields, and puts none of them where there is no room for all.
+#![tactic(auto)]
+
 ghost use Rattle.std.specs.Prelude.{◌≡◌, ◌++◌, ◌+◌, ◌≤◌, length};
 ghost use Rattle.std.proofs.lemmas.List.Edits.{sets};
 ghost use Rattle.octets.specs.Octets.{octets, pack, fields_of, put_all};

@@ -1,5 +1,7 @@
 // The dump's text (docs/FORMAT.md, 9): a message as lines of decimal numbers, or its refusal.
 // The text is put into a lent array; this crate reads and writes no files.
+#![tactic(auto)]
+
 ghost use Rattle.std.specs.Prelude.{◌≡◌, [], ◌∷◌, ◌++◌, ◌≤◌, ◌<◌, min, length};
 ghost use Rattle.io.specs.Counts.{IsPrefixLen};
 ghost use Rattle.octets.specs.Octets.{over, Put};

@@ -3,7 +3,7 @@ ghost use Rattle.std.specs.Prelude.{◌≡◌};
 ghost use Rattle.octets.specs.AtHand.{available_of};
 
 /// Are as many bytes at hand as a length states?
-#[derive(Drop)]
+#[derive(Clone, Copy)]
 pub enum Available {
     Enough,
     Absent(usize),

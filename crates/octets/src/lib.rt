@@ -1,9 +1,10 @@
-// Numbers in bytes, the highest byte first: read and written by value, so that no caller has to check a length first; and
-// bytes filled with one.
+// Numbers in bytes, the highest byte first: read and written by value, so that no caller has to check a length first.
 // This crate knows nothing of Diameter.
+#![tactic(auto)]
+
 pub mod at_hand;
 
-ghost use Rattle.std.specs.Prelude.{◌≡◌, [], ◌∷◌, length, replicate};
+ghost use Rattle.std.specs.Prelude.{◌≡◌, [], ◌∷◌};
 ghost use Rattle.octets.specs.Octets.{octets, Reads};
 
 fn wide(x: u8) -> u32
@@ -77,15 +78,4 @@ pub fn to_be_u64(v: u64) -> [u8; 8]
     [
         high[0], high[1], high[2], high[3], low[0], low[1], low[2], low[3],
     ]
-}
-
-/// Sets every byte to one value.
-pub fn fill(bytes: &mut [u8], byte: u8)
-    ensures { bytes.new ≡ replicate (length bytes.old) byte }
-{
-    let mut i: usize = 0;
-    while i < bytes.len() {
-        bytes[i] = byte;
-        i += 1;
-    }
 }

@@ -1,5 +1,7 @@
 // RADIUS (RFC 2865): a packet, from a lent slice to a header, records in a lent store, error flags, counts and a length.
 // The attributes are counted first and nothing is written until they are known to fit, so a refusal has changed no byte.
+#![tactic(auto)]
+
 ghost use Rattle.std.specs.Prelude.{◌≡◌, ◌≤◌, length};
 ghost use Rattle.record.specs.Store.{room, stored};
 ghost use Rattle.rfc2865.specs.Packet.{header_size, header_of, packet_records, decoded};
@@ -10,7 +12,7 @@ use radius_attributes::Filled;
 use refusal::Refusal;
 
 /// An accepted packet: code and identifier of its header, error flags, number of records, attributes tried and length.
-#[derive(Drop)]
+#[derive(Clone, Copy)]
 pub struct Packet {
     pub code: u8,
     pub identifier: u8,
@@ -21,21 +23,21 @@ pub struct Packet {
 }
 
 /// What decoding a packet answers.
-#[derive(Drop)]
+#[derive(Clone, Copy)]
 pub enum Decoded {
     Accepted(Packet),
     Refused(Refusal),
 }
 
 /// That answer, and beside it the authenticator, since an enum holds no array. Where the packet is refused it is zero.
-#[derive(Drop)]
+#[derive(Clone, Copy)]
 pub struct Parsed {
     pub decoded: Decoded,
     pub authenticator: [u8; Packet::AUTHENTICATOR],
 }
 
 // How long a packet is, or why its header is refused.
-#[derive(Drop)]
+#[derive(Clone, Copy)]
 enum Measured {
     Length(usize),
     Refused(Refusal),

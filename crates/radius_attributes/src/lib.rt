@@ -1,5 +1,7 @@
 // Reading a run of RADIUS attributes (RFC 2865, section 5): it is counted first, and where it tiles and fits, its records are put into a lent store.
 // This crate knows no packet. It writes nothing until everything is known to fit, so a refusal has changed no byte.
+#![tactic(auto)]
+
 ghost use Rattle.std.specs.Prelude.{◌≡◌, true, ◌≤◌, length};
 ghost use Rattle.octets.specs.Run.{tree, tiles};
 ghost use Rattle.record.specs.Record.{record_size};
@@ -12,14 +14,14 @@ use record::Record;
 use refusal::Refusal;
 
 /// An accepted run: its error flags and number of records.
-#[derive(Drop)]
+#[derive(Clone, Copy)]
 pub struct Counts {
     pub errors: u8,
     pub records: usize,
 }
 
 /// What reading a run answers.
-#[derive(Drop)]
+#[derive(Clone, Copy)]
 pub enum Filled {
     Accepted(Counts),
     Refused(Refusal),
@@ -29,7 +31,7 @@ pub enum Filled {
 const HEADER_SIZE: usize = 2;
 
 // How many attributes cover a slice, or that none do.
-#[derive(Drop)]
+#[derive(Clone, Copy)]
 enum Counted {
     Tiled(usize),
     Broken,

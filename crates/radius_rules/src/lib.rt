@@ -1,5 +1,7 @@
 // The rules of a table of attributes (docs/FORMAT.md, 11.5): which record is the first to break one.
 // This crate looks at records alone: it knows how many bytes their places may point into, and none of those bytes.
+#![tactic(auto)]
+
 ghost use Rattle.std.specs.Prelude.{◌≡◌};
 ghost use Rattle.record.specs.Table.{table_of};
 ghost use Rattle.rfc2865.specs.Writer.{keeps, keepers};

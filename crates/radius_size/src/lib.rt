@@ -1,4 +1,6 @@
 // Measures the attributes of a table.
+#![tactic(auto)]
+
 ghost use Rattle.std.specs.Prelude.{◌≡◌};
 ghost use Rattle.record.specs.Table.{table_of};
 ghost use Rattle.radius_size.specs.Sizing.{sized_of};
@@ -6,7 +8,7 @@ ghost use Rattle.radius_size.specs.Sizing.{sized_of};
 use record::Record;
 
 /// How many bytes the attributes of a table take, or that there are more than allowed.
-#[derive(Drop)]
+#[derive(Clone, Copy)]
 pub enum Measured {
     Over,
     Size(usize),

@@ -1,5 +1,7 @@
 // What an attribute's data are (RFC 2865, section 5): a kind, the number in a record's value field, and the error flags.
 // This crate knows a type and its data, and nothing of where an attribute stands.
+#![tactic(auto)]
+
 pub mod types;
 
 ghost use Rattle.std.specs.Prelude.{◌≡◌};
@@ -12,7 +14,7 @@ use record::kinds::{ADDRESS, UNHANDLED, UNSIGNED32, UTF8_STRING};
 use utf8::Utf8;
 
 /// A kind, the number in a record's value field, and the error flags.
-#[derive(Drop)]
+#[derive(Clone, Copy)]
 pub struct Value {
     pub kind: u8,
     pub number: u64,

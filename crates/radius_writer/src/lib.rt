@@ -1,5 +1,7 @@
 // The writer of RADIUS packets: from a header's fields, a table of records and the bytes that its places point into, to a packet.
 // Everything is checked and measured before the first byte is written, so a refusal has changed none.
+#![tactic(auto)]
+
 mod emit;
 
 ghost use Rattle.std.specs.Prelude.{◌≡◌, ◌≤◌, length};
@@ -15,7 +17,7 @@ use record::written::Written;
 use refusal::Refusal;
 
 /// The header's fields of a packet to be written; its length is computed.
-#[derive(Drop)]
+#[derive(Clone, Copy)]
 pub struct Fields {
     pub code: u8,
     pub identifier: u8,

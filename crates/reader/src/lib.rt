@@ -1,6 +1,8 @@
 // A reader that holds a message's payload and its place in it, and steps over AVPs without entering groups.
 // The borrow checker covers no function over a struct that holds a reference, so its methods are thin: each takes the struct apart and
 // calls a covered function on the slice and the number. `find` serves a caller that has a message and a code.
+#![tactic(auto)]
+
 ghost use Rattle.std.specs.Prelude.{◌≡◌};
 ghost use Rattle.rfc6733.specs.Header.{header_size};
 ghost use Rattle.rfc6733.specs.Search.{sought};
@@ -12,7 +14,7 @@ use steps::{Found, Step, Stepped};
 
 /// The payload, with the message's header still before it, so that places count from the message's first byte; and where in it the
 /// next AVP stands.
-#[derive(Drop)]
+#[derive(Clone, Copy)]
 pub struct Reader<'a> {
     pub payload: &'a [u8],
     pub place: usize,

@@ -18,6 +18,7 @@ use Rattle.record.proofs.Damage.{is_group_of, ButAround, Told, back_length}
 -- ---- where a record stands
 
 pub at_same : (rs : List Record) (i : ℕ) (x y : Record) → At rs i x → At rs i y → x ≡ y
+at_same [] i x y e e' = elim e [ ]
 at_same (r ∷ rs) zero x y e e' = sym e ∙ e'
 at_same (r ∷ rs) (suc i) x y e e' = at_same rs i x y e e'
 

@@ -15,6 +15,7 @@ pub none_there : (k : ℕ) (r : Record) (behind : List Record) → drop k [] ≡
 none_there k r behind e = let z : ◌≡◌ {A = ℕ} 0 (suc (length behind)) = ap length (sym (drop-nil k) ∙ e) in omega arith
 
 pub at_drop : (rs : List Record) (k : ℕ) (r : Record) → At rs k r → drop k rs ≡ r ∷ drop (suc k) rs
+at_drop [] k r e = elim e [ ]
 at_drop (x ∷ rs) zero r e = ap (λ (y : Record). y ∷ rs) e
 at_drop (x ∷ rs) (suc k) r e = at_drop rs k r e
 

@@ -23,9 +23,23 @@ with_found r kind errors value =
       parent = r.parent;
     }
 
--- with other error flags and another value
+-- a record with other error flags and another value
 abbrev pub with_both : Record → ℕ → ℕ → Record
-with_both r errors value = with_found r r.kind errors value
+with_both r errors value =
+    record {
+      code = r.code;
+      flags = r.flags;
+      length = r.length;
+      vendor = r.vendor;
+      place = r.place;
+      depth = r.depth;
+      kind = r.kind;
+      errors = errors;
+      padding = r.padding;
+      pads = r.pads;
+      value = value;
+      parent = r.parent;
+    }
 
 -- the writer takes neither
 unfoldable pub bare : Record → Record

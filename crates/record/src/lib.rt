@@ -1,5 +1,7 @@
 // The record of an AVP, or of an attribute of RADIUS, and its 36 bytes (docs/FORMAT.md, 6): written to a store and read from a table.
 // This crate knows the layout, and nothing of how a record comes about.
+#![tactic(auto)]
+
 pub mod kinds;
 pub mod outline;
 pub mod written;
@@ -11,7 +13,7 @@ ghost use Rattle.record.specs.Record.{record_size, layout, record_at};
 ghost use Rattle.record.specs.Table.{entry_at};
 ghost use Rattle.record.specs.Store.{put, put_found, put_place_and_parent};
 
-#[derive(Drop)]
+#[derive(Clone, Copy)]
 pub struct Record {
     pub code: u32,
     pub flags: u8,
@@ -80,7 +82,11 @@ fn word(table: &[u8], at: usize) -> u32
 pub fn clear(store: &mut [u8])
     ensures { store.new ≡ replicate (length store.old) 0 }
 {
-    octets::fill(store, 0);
+    let mut i: usize = 0;
+    while i < store.len() {
+        store[i] = 0;
+        i += 1;
+    }
 }
 
 impl Record {

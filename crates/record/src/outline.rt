@@ -1,6 +1,6 @@
 // The outline of an AVP (docs/FORMAT.md, 6.4): its header, where its data stand, and its padding. It says nothing of what the data are.
 
-#[derive(Drop)]
+#[derive(Clone, Copy)]
 pub struct Outline {
     pub code: u32,
     pub flags: u8,

@@ -2,7 +2,7 @@
 use refusal::Refusal;
 
 /// How many bytes it wrote, or the refusal.
-#[derive(Drop)]
+#[derive(Clone, Copy)]
 pub enum Written {
     Accepted(usize),
     Refused(Refusal),

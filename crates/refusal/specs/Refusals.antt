@@ -1,7 +1,7 @@
 -- The number and the amount of each refusal (docs/FORMAT.md, 7.1). One that has no amount has 0.
 use Rattle.std.specs.Prelude.{ℕ}
 use Rattle.refusal.specs.Answer.{Refusal}
-use Rattle.refusal.specs.declared.Refusal.TheVariants.{Incomplete, NotVersion, BadLength, NotTiled, TooDeep, NoRecords, BadDepth, BadHeader, BadTable, TooLong, NoRoom, BadEdition, BadExponent, BadPlace}
+use Rattle.refusal.specs.declared.Refusal.TheVariants.{Incomplete, NotVersion, BadLength, NotTiled, TooDeep, NoRecords, BadDepth, BadHeader, BadTable, TooLong, NoRoom, BadEdition, BadExponent}
 
 abbrev pub number_of : Refusal → ℕ
 number_of (Incomplete n) = 1
@@ -17,7 +17,6 @@ number_of TooLong = 10
 number_of (NoRoom n) = 11
 number_of BadEdition = 12
 number_of BadExponent = 13
-number_of BadPlace = 16
 
 abbrev pub amount_of : Refusal → ℕ
 amount_of (Incomplete n) = n
@@ -33,4 +32,3 @@ amount_of TooLong = 0
 amount_of (NoRoom n) = n
 amount_of BadEdition = 0
 amount_of BadExponent = 0
-amount_of BadPlace = 0

@@ -1,10 +1,12 @@
 // The refusals (docs/FORMAT.md, 7.1), each with its number and its amount.
 // This crate knows the list, and nothing of when a refusal is given.
+#![tactic(auto)]
+
 ghost use Rattle.std.specs.Prelude.{◌≡◌};
 ghost use Rattle.refusal.specs.Refusals.{number_of, amount_of};
 
 /// Why an input, a table or a request is refused.
-#[derive(Drop)]
+#[derive(Clone, Copy)]
 pub enum Refusal {
     /// So many bytes more are needed.
     Incomplete(usize),
@@ -23,7 +25,6 @@ pub enum Refusal {
     NoRoom(usize),
     BadEdition,
     BadExponent,
-    BadPlace,
 }
 
 impl Refusal {
@@ -45,7 +46,6 @@ impl Refusal {
             Refusal::NoRoom(_) => 11,
             Refusal::BadEdition => 12,
             Refusal::BadExponent => 13,
-            Refusal::BadPlace => 16,
         }
     }
 
@@ -67,7 +67,6 @@ impl Refusal {
             Refusal::NoRoom(n) => n,
             Refusal::BadEdition => 0,
             Refusal::BadExponent => 0,
-            Refusal::BadPlace => 0,
         }
     }
 }

@@ -1,5 +1,7 @@
 // Answers framed cases from standard input on standard output: the bridge to the oracle and, with the frames kept beside it, a
 // test of the decoders. oracle/README.md has the frame and the answer. It stops at the end of the input or at a frame that it can't hold.
+#![tactic(auto)]
+
 mod joining;
 mod packets;
 

@@ -1,5 +1,7 @@
 // An answer as numbers, for callers of other languages: its number and amount, then what an acceptance returns. What an answer does not
 // return is 0. This crate knows how the numbers stand, and nothing of how an answer comes about.
+#![tactic(auto)]
+
 pub mod packets;
 
 ghost use Rattle.std.specs.Prelude.{◌≡◌};

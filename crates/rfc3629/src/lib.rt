@@ -1,5 +1,7 @@
 // The byte ranges of RFC 3629, section 4, in their order, each line beside the RFC's own: is it a character of so many bytes?
 // Tests are joined by `&` and `|`, which do not branch. This crate knows one character, and nothing of the text that it stands in.
+#![tactic(auto)]
+
 ghost use Rattle.std.specs.Prelude.{◌≡◌, [], ◌∷◌};
 ghost use Rattle.rfc3629.specs.Abnf.{byte, range};
 ghost use Rattle.rfc3629.specs.Syntax.{Utf8Tail, Utf8_1, Utf8_2, Utf8_3, Utf8_4};

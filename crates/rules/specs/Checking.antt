@@ -1,8 +1,7 @@
 -- What checking a table answers, and what is said of a run of it.
-use Rattle.std.specs.Prelude.{ℕ, ◌+◌, ◌≤◌, ◌<◌, min, ◌≡◌, cond, List, [], ◌∷◌, length, drop}
+use Rattle.std.specs.Prelude.{ℕ, ◌+◌, ◌≤◌, ◌<◌, min, ◌≡◌, cond, List, [], ◌∷◌, length, drop, ltb}
 use Rattle.record.specs.Record.{Record}
 use Rattle.record.specs.Parents.{parent_at}
-use Rattle.record.specs.Table.{table_of, bad_table}
 use Rattle.rfc6733.specs.Writer.{is_group, head_of, keepers}
 use Rattle.rules.specs.declared.Checked.{Checked}
 use Rattle.rules.specs.declared.Checked.TheVariants as of_table
@@ -21,13 +20,11 @@ own_sizes (r ∷ rs) = own_size r + own_sizes rs
 abbrev pub too_many : ℕ
 too_many = 16777216
 
--- how many records keep the rules, where n bytes are there to point into and the writer refuses the table; if it does
--- not, the bytes of all
-unfoldable pub checked_of : ℕ → List ℕ → Checked
-checked_of n table =
-    let rs = table_of table in
+-- the first record that breaks a rule, where n bytes are there to point into; if none does, the bytes of all
+unfoldable pub checked_of : ℕ → List Record → Checked
+checked_of n rs =
     let kept = keepers [] 1 n rs in
-    cond (bad_table kept table).given (of_table.Bad kept) (of_table.Good (min (own_sizes rs) too_many))
+    cond (ltb kept (length rs)) (of_table.Bad kept) (of_table.Good (min (own_sizes rs) too_many))
 
 -- ---- a run: the records of a table from one on, down to one that is less deep
 

@@ -1,7 +1,8 @@
 // The rules of a table (docs/FORMAT.md, 8.3): which record is the first to break one. If none does, how long AVPs get.
 // The size of a group with all its members is worked out by recursion; so the members' depth and parent are at hand.
 // This crate looks at records alone: it knows how many bytes their places may point into, and none of those bytes.
-pub mod masking;
+#![tactic(auto)]
+
 pub mod shifting;
 
 ghost use Rattle.std.specs.Prelude.{◌≡◌, ◌&&◌, ◌||◌, ◌-◌, ◌%◌, ◌^◌, min, eqb};
@@ -112,7 +113,7 @@ fn capped(size: usize) -> usize
 }
 
 // Where a run ends and how many bytes its AVPs take; or the index of the record that breaks a rule.
-#[derive(Drop)]
+#[derive(Clone, Copy)]
 enum Run {
     Bad(usize),
     Ends { index: usize, size: usize },
@@ -159,9 +160,8 @@ fn check_run(table: &[u8], from: usize, depth: u8, parent: usize, available: usi
     Run::Ends { index, size }
 }
 
-/// The index of the first record that breaks a rule, or the record count where bytes are left over; or that neither is so,
-/// and the bytes of all AVPs, 2^24 at the most.
-#[derive(Drop)]
+/// The index of the first record that breaks a rule; or that none does, and the bytes of all AVPs, 2^24 at the most.
+#[derive(Clone, Copy)]
 pub enum Checked {
     Bad(usize),
     Good(usize),
@@ -169,15 +169,12 @@ pub enum Checked {
 
 /// Checks and measures a table whose records point into so many bytes.
 pub fn check(table: &[u8], available: usize) -> Checked
-    ensures { result ≡ checked_of available table.now }
+    ensures { result ≡ checked_of available (table_of table.now) }
 {
     match check_run(table, 0, 1, Record::TOP_LEVEL as usize, available) {
         Run::Bad(index) => Checked::Bad(index),
         Run::Ends { index, size } => {
             if index < table.len() / Record::SIZE {
-                return Checked::Bad(index);
-            }
-            if table.len() % Record::SIZE != 0 {
                 return Checked::Bad(index);
             }
             Checked::Good(size)

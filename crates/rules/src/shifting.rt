@@ -9,7 +9,7 @@ use record::Record;
 use refusal::Refusal;
 
 /// How many records were moved, or the refusal.
-#[derive(Drop)]
+#[derive(Clone, Copy)]
 pub enum Shifted {
     Accepted(usize),
     Refused(Refusal),

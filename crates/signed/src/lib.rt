@@ -1,6 +1,8 @@
 // The signed numbers behind the patterns that records keep: Integer32, Enumerated, Integer64, and a Time in Unix seconds; and a number
 // without its sign.
 // This crate knows numbers alone, and nothing of bytes.
+#![tactic(auto)]
+
 ghost use Rattle.std.specs.Prelude.{◌≡◌, nat_abs};
 ghost use Rattle.rfc6733.specs.Signed.{signed, unix_seconds};
 

@@ -1,4 +1,6 @@
 // Steps over the AVPs of a payload without entering groups, from a place on: to the next, or to the first with a code.
+#![tactic(auto)]
+
 ghost use Rattle.std.specs.Prelude.{◌≡◌, drop};
 ghost use Rattle.octets.specs.Run.{item};
 ghost use Rattle.rfc6733.specs.Records.{unentered};
@@ -11,7 +13,7 @@ use record::outline::Outline;
 use refusal::Refusal;
 
 /// What a reader finds: an AVP, the place at which none is complete, or the end.
-#[derive(Drop)]
+#[derive(Clone, Copy)]
 pub enum Step {
     At(Outline),
     Broken,
@@ -32,14 +34,14 @@ impl Step {
 }
 
 /// What is found, and where the reader then stands.
-#[derive(Drop)]
+#[derive(Clone, Copy)]
 pub struct Stepped {
     pub found: Step,
     pub place: usize,
 }
 
 /// What is found of a code in a message.
-#[derive(Drop)]
+#[derive(Clone, Copy)]
 pub enum Found {
     At(Outline),
     None,

@@ -8,7 +8,6 @@ use Rattle.record.specs.Counts.{Counts}
 use Rattle.rfc6733.specs.Editions.{decoded_by, avp_alone_by}
 use Rattle.record.specs.Store.{room, stored, output}
 use Rattle.rfc6733.specs.Writer.{Fields, written, table_bytes}
-use Rattle.rules.specs.Masking.{mask_answer, mask_answer_by, message_after}
 use Rattle.steps.specs.declared.Stepped.{Stepped}
 use Rattle.steps.specs.Steps.{found_of, answer_of}
 use Rattle.unit_value.specs.declared.Ordering.{Ordering}
@@ -69,24 +68,6 @@ avp_store_by edition limit store input = stored (avp_asked_by edition limit stor
 abbrev pub write_output : ℕ → ℕ → ℕ → ℕ → ℕ → List ℕ → List ℕ → List ℕ → List ℕ
 write_output f c a h e table pool out =
     let fields = fields_given f c a h e in output (write_asked fields table pool out) (table_bytes fields table pool) out
-
--- ---- a record to be masked
-
--- in a reading, by the message, its table and the index
-abbrev pub mask_asked : Bool → List ℕ → List ℕ → ℕ → Answer ℕ
-mask_asked rfc message table index = mask_answer (dictionary (reading_of rfc)) (length message) table index
-
--- the same by an edition
-abbrev pub mask_asked_by : ℕ → List ℕ → List ℕ → ℕ → Answer ℕ
-mask_asked_by edition message table index = mask_answer_by edition (length message) table index
-
--- the message afterwards
-abbrev pub masked_message : Bool → List ℕ → List ℕ → ℕ → ℕ → List ℕ
-masked_message rfc message table index byte = message_after table index byte (mask_asked rfc message table index) message
-
-abbrev pub masked_message_by : ℕ → List ℕ → List ℕ → ℕ → ℕ → List ℕ
-masked_message_by edition message table index byte =
-    message_after table index byte (mask_asked_by edition message table index) message
 
 -- ---- a comparison
 

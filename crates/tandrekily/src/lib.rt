@@ -1,5 +1,7 @@
 // The library for C and Rust: each public way to decode and to write, over numbers and byte slices, by the C calling convention.
 // This crate knows what each function is asked; how the answer is laid out as numbers is that of results.
+#![tactic(auto)]
+
 pub mod packets;
 
 ghost use Rattle.std.specs.Prelude.{◌≡◌};
@@ -9,13 +11,13 @@ ghost use Rattle.rfc6733.specs.Search.{sought};
 ghost use Rattle.rfc6733.specs.Signed.{signed, unix_seconds};
 ghost use Rattle.steps.specs.Steps.{step_at};
 ghost use Rattle.rules.specs.Shifting.{shift_answer, table_after};
-ghost use Rattle.results.specs.Results.{message_result, avp_result, written_result, shifted_result, found_result};
-ghost use Rattle.tandrekily.specs.Asked.{reading_of, step_result, message_asked, avp_asked, message_asked_by, avp_asked_by, write_result, message_store, avp_store, message_store_by, avp_store_by, write_output, mask_asked, mask_asked_by, masked_message, masked_message_by, number_shown, order_shown, compared_given};
+ghost use Rattle.results.specs.Results.{message_result, avp_result, shifted_result, found_result};
+ghost use Rattle.tandrekily.specs.Asked.{reading_of, step_result, message_asked, avp_asked, message_asked_by, avp_asked_by, write_result, message_store, avp_store, message_store_by, avp_store_by, write_output, number_shown, order_shown, compared_given};
 
 use attribute::Reading;
 use header::Header;
 use results::{OUTLINE, RESULT};
-use rules::{masking, shifting};
+use rules::shifting;
 use unit_value::{Compared, UnitValue};
 use utf8::Utf8;
 use writer::Fields;
@@ -152,38 +154,6 @@ pub extern "C" fn tandrekily_shift(
     ensures table { table.new ≡ table_after bytes records (shift_answer bytes records table.old) table.old }
 {
     *res = results::of_shifted(shifting::shift(table, bytes, records));
-}
-
-/// Writes `byte` over the data of the record `index` of a message's table.
-#[unsafe(no_mangle)]
-pub extern "C" fn tandrekily_mask(
-    rfc: bool,
-    message: &mut [u8],
-    table: &[u8],
-    index: usize,
-    byte: u8,
-    res: &mut [u64; RESULT],
-)
-    ensures res { res.new ≡ written_result (mask_asked rfc message.old table.now index) }
-    ensures message { message.new ≡ masked_message rfc message.old table.now index byte }
-{
-    *res = results::of_written(masking::mask(reading_of(rfc), message, table, index, byte));
-}
-
-/// The same by an edition of the credit-control dictionary, 4006 or 8506.
-#[unsafe(no_mangle)]
-pub extern "C" fn tandrekily_mask_by(
-    edition: u32,
-    message: &mut [u8],
-    table: &[u8],
-    index: usize,
-    byte: u8,
-    res: &mut [u64; RESULT],
-)
-    ensures res { res.new ≡ written_result (mask_asked_by edition message.old table.now index) }
-    ensures message { message.new ≡ masked_message_by edition message.old table.now index byte }
-{
-    *res = results::of_written(masking::mask_by(edition, message, table, index, byte));
 }
 
 /// Is the text well-formed UTF-8 (RFC 3629)?

@@ -1,12 +1,14 @@
 // Unit-Values of credit-control (RFC 4006 and RFC 8506, section 8.8) compared exactly: Value-Digits times ten to the Exponent.
 // This crate knows numbers alone, and nothing of bytes.
+#![tactic(auto)]
+
 ghost use Rattle.std.specs.Prelude.{◌≡◌, true, ◌*◌, ◌^◌, pos};
 ghost use Rattle.unit_value.specs.UnitValues.{order, reversed, in_range, tens, scaled, compared, answer_of};
 
 use refusal::Refusal;
 
 /// A Unit-Value. Where the Exponent is absent it is 0.
-#[derive(Drop)]
+#[derive(Clone, Copy)]
 pub struct UnitValue {
     pub digits: i64,
     pub exponent: i32,
@@ -20,7 +22,7 @@ impl UnitValue {
 }
 
 /// How one number stands to another.
-#[derive(Drop)]
+#[derive(Clone, Copy)]
 pub enum Ordering {
     Less,
     Equal,
@@ -28,7 +30,7 @@ pub enum Ordering {
 }
 
 /// What a comparison answers.
-#[derive(Drop)]
+#[derive(Clone, Copy)]
 pub enum Compared {
     Is(Ordering),
     Refused(Refusal),

@@ -1,5 +1,7 @@
 // Is a text well-formed UTF-8, and if not, up to where? The byte ranges of RFC 3629, section 4, decide, and the crate rfc3629 has them; here a
 // text is read by them from the front, and first_byte.rt and the crate ascii are for speed. This crate knows nothing of Diameter.
+#![tactic(auto)]
+
 mod first_byte;
 
 ghost use Rattle.std.specs.Prelude.{◌≡◌};
@@ -7,7 +9,7 @@ ghost use Rattle.rfc3629.specs.Utf8.{well_formed};
 ghost use Rattle.utf8.specs.Checked.{checked};
 
 /// What the check says of a text.
-#[derive(Drop)]
+#[derive(Clone, Copy)]
 pub enum Utf8 {
     WellFormed,
     /// The length in bytes of the longest prefix that is well-formed.

@@ -1,5 +1,7 @@
 // What an AVP's data are: a typed value with its error flags.
 // This crate knows the data of one AVP, and nothing of records or of nesting.
+#![tactic(auto)]
+
 ghost use Rattle.std.specs.Prelude.{◌≡◌, true, cond, ◌||◌};
 ghost use Rattle.rfc6733.specs.Value.{kinds32, kinds64, one_of, fixed};
 ghost use Rattle.rfc6733.specs.Records.{tiling};
@@ -17,7 +19,7 @@ use utf8::Utf8;
 
 /// AVP Data Format as specified in RFC 6733, section 4.2. Data that are no number stay in the input;
 /// a number is held as its bits, whatever its sign or form.
-#[derive(Drop)]
+#[derive(Clone, Copy)]
 pub enum Value {
     /// Of ill-formed text, the length of its longest prefix that is well-formed; otherwise 0.
     Unhandled(u64),
@@ -38,7 +40,7 @@ pub enum Value {
 }
 
 /// A value with the error flags that reading it raised.
-#[derive(Drop)]
+#[derive(Clone, Copy)]
 pub struct Read {
     pub value: Value,
     pub errors: u8,

@@ -1,5 +1,7 @@
 // Answers of the public functions that no other program calls, in lines of words and decimal numbers. The lines that it must write
 // are made by oracle/witness.py from the texts of the RFCs and of the Rust, so they are a second witness to names, kinds, flags, numbers and ranges.
+#![tactic(auto)]
+
 mod bits;
 mod by_edition;
 mod codes;

@@ -1,5 +1,7 @@
 // Four or eight bytes at the front of a slice as one number, read and put in a form of which the compiler makes one load and one store.
 // A slice of any length has an answer. Where it is cut out as four bytes, as in `&s[4..8]`, no test of its length is left.
+#![tactic(auto)]
+
 ghost use Rattle.std.specs.Prelude.{◌≡◌, [], ◌∷◌, reverse, ◌≤◌, ◌<◌, length};
 ghost use Rattle.octets.specs.Octets.{be, octets, Reads};
 ghost use Rattle.word.specs.Word.{last_first, put_word, put_long};

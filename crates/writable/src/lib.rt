@@ -1,9 +1,12 @@
 // What the writer answers (docs/FORMAT.md, 8.3), before a byte is written: whether the table keeps the rules, and its message fits.
 // This crate looks at the table and at numbers: it knows how many bytes there are to point into and to write over, and none of them.
+#![tactic(auto)]
+
 ghost use Rattle.record.specs.Written.{answer_of};
 ghost use Rattle.writable.specs.Answers.{AnswerFor};
 
 use header::Header;
+use record::Record;
 use record::written::Written;
 use refusal::Refusal;
 use rules::Checked;
@@ -23,6 +26,9 @@ pub fn answer(code: u32, table: &[u8], available: usize, room: usize) -> Written
     match rules::check(table, available) {
         Checked::Bad(index) => Written::Refused(Refusal::BadTable(index)),
         Checked::Good(size) => {
+            if table.len() % Record::SIZE != 0 {
+                return Written::Refused(Refusal::BadTable(table.len() / Record::SIZE));
+            }
             if MOST_LENGTH - Header::SIZE < size {
                 return Written::Refused(Refusal::TooLong);
             }

@@ -12,7 +12,7 @@ use record::kinds::GROUPED;
 use rules::header_size;
 
 // How many records were taken, and the bytes of their AVPs.
-#[derive(Drop)]
+#[derive(Clone, Copy)]
 pub(super) struct Taken {
     pub records: usize,
     pub size: usize,

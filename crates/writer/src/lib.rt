@@ -1,5 +1,7 @@
 // The writer: from header fields, a table of records and the bytes that its places point into, to a message.
 // Everything is checked and measured before the first byte is written, so a refusal has changed none.
+#![tactic(auto)]
+
 mod emit;
 
 ghost use Rattle.std.specs.Prelude.{◌≡◌, length};
@@ -12,7 +14,7 @@ use header::Header;
 use record::written::Written;
 
 /// The header fields of a message to be written; the version is 1 and the length is computed.
-#[derive(Drop)]
+#[derive(Clone, Copy)]
 pub struct Fields {
     pub flags: u8,
     pub code: u32,

@@ -10,13 +10,13 @@ use Rattle.ascii.proofs.Runs.{one_by_one, too_short}
 use Rattle.ascii.proofs.four.Statement.{statement}
 use Rattle.ascii.proofs.four.Tie as tie
 
-bytes_are : (c : tie.After-to-be-u32) → c.to_be_u32.result ≡ take 4 c.before.before.before.before.args.s.now
+bytes_are : (c : tie.After-to_be_u32-b) → c.to_be_u32-b.result ≡ take 4 c.before.before.before.before.args.s.now
 bytes_are c =
     let known = c.before.before.before in
-    c.to_be_u32.ensures ∙ ap (octets 4) c.before.be_u32.ensures
-    ∙ written_read 4 known.before.args.s.now 0 (omega arith) (λ i. omega (arith, known.shared-slice-known.given i))
+    c.to_be_u32-b.ensures ∙ ap (octets 4) c.before.be_u32.ensures
+    ∙ written_read 4 known.before.args.s.now 0 (omega arith) (λ i. omega (arith, known.shared_slice_known-1.given i))
 
-returns_2 : tie.Need-returns-2
+returns_2 : tie.Need-returns
 returns_2 c =
     let b2 = c.before in
     let b1 = b2.before in
@@ -25,13 +25,13 @@ returns_2 c =
     rw (
       one_by_one 4 word.before.before.before.before.args.s.now _ (omega arith) (bytes_are word),
       b0.is_utf8_1.ensures,
-      b1.is-utf8-12.ensures,
-      b2.is-utf8-13.ensures,
-      c.is-utf8-14.ensures,
+      b1.is_utf8_1-2.ensures,
+      b2.is_utf8_1-3.ensures,
+      c.is_utf8_1-4.ensures,
     )
 
-pub four-spec : {M : Type 1} → statement M
-four-spec =
+pub four_spec : {M : Type 1} → statement M
+four_spec =
     tie.close
     (tie.spec
     (λ c. too_short 4 c.before.before.args.s.now (omega arith))

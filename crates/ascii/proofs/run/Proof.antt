@@ -12,53 +12,53 @@ use Rattle.ascii.proofs.Runs.{Left, passed, first_left, none_left, ended}
 use Rattle.ascii.proofs.run.Statement.{statement}
 use Rattle.ascii.proofs.run.Tie as tie
 
-abbrev invariant-loop : tie.invariant-loop
+abbrev invariant-loop : tie.invariant-loop-at
 invariant-loop s at₀ at = Left s at
 
-abbrev decreases-loop : tie.decreases-loop
+abbrev decreases-loop : tie.decreases-loop-at
 decreases-loop s at₀ at = length s - at
 
-abbrev invariant-loop2 : tie.invariant-loop2
+abbrev invariant-loop2 : tie.invariant-loop-at-2
 invariant-loop2 s at₀ at = Left s at
 
-abbrev decreases-loop2 : tie.decreases-loop2
+abbrev decreases-loop2 : tie.decreases-loop-at-2
 decreases-loop2 s at₀ at = length s - at
 
-abbrev invariant-loop3 : tie.invariant-loop3
+abbrev invariant-loop3 : tie.invariant-loop-at-3
 invariant-loop3 s at₀ at = Left s at
 
-abbrev decreases-loop3 : tie.decreases-loop3
+abbrev decreases-loop3 : tie.decreases-loop-at-3
 decreases-loop3 s at₀ at = length s - at
 
 -- `thirty_two` and `four` were lent what is left of the text
-thirty_two_is : (c : tie.After-thirty-two invariant-loop decreases-loop invariant-loop2 decreases-loop2 invariant-loop3 decreases-loop3)
+thirty_two_is : (c : tie.After-thirty_two invariant-loop decreases-loop invariant-loop2 decreases-loop2 invariant-loop3 decreases-loop3)
     → let l = c.before.before in
-    c.thirty_two.result ≡ leb 32 (ascii_run (drop l.loop.at l.before.before.args.s.now))
+    c.thirty_two.result ≡ leb 32 (ascii_run (drop l.loop-at.at l.before.before.args.s.now))
 thirty_two_is c =
     let l = c.before.before in
-    rw (rest l.before.before.args.s.now l.loop.at l.loop.invariant.within) at c.thirty_two.ensures
+    rw (rest l.before.before.args.s.now l.loop-at.at l.loop-at.invariant.within) at c.thirty_two.ensures
 
-loop-again : tie.Need-loop-preserved invariant-loop decreases-loop invariant-loop2 decreases-loop2 invariant-loop3 decreases-loop3
-loop-again c = passed c.before.before.before.loop.invariant 32 (sym c.if1.true ∙ thirty_two_is c.before)
+loop-again : tie.Need-loop-at-preserved invariant-loop decreases-loop invariant-loop2 decreases-loop2 invariant-loop3 decreases-loop3
+loop-again c = passed c.before.before.before.loop-at.invariant 32 (sym c.loop-at-test.true ∙ thirty_two_is c.before)
 
 four_is : (c : tie.After-four invariant-loop decreases-loop invariant-loop2 decreases-loop2 invariant-loop3 decreases-loop3)
     → let l = c.before.before in
-    c.four.result ≡ leb 4 (ascii_run (drop l.loop2.at l.before.before.before.before.before.before.args.s.now))
+    c.four.result ≡ leb 4 (ascii_run (drop l.loop-at-2.at l.before.before.before.before.before.before.args.s.now))
 four_is c =
     let l = c.before.before in
-    rw (rest l.before.before.before.before.before.before.args.s.now l.loop2.at l.loop2.invariant.within) at c.four.ensures
+    rw (rest l.before.before.before.before.before.before.args.s.now l.loop-at-2.at l.loop-at-2.invariant.within) at c.four.ensures
 
-loop2_again : tie.Need-loop2-preserved invariant-loop decreases-loop invariant-loop2 decreases-loop2 invariant-loop3 decreases-loop3
-loop2_again c = passed c.before.before.before.loop2.invariant 4 (sym c.if2.true ∙ four_is c.before)
+loop2_again : tie.Need-loop-at-2-preserved invariant-loop decreases-loop invariant-loop2 decreases-loop2 invariant-loop3 decreases-loop3
+loop2_again c = passed c.before.before.before.loop-at-2.invariant 4 (sym c.loop-at-2-test.true ∙ four_is c.before)
 
-first_is : (c : tie.After-is-utf8-1 invariant-loop decreases-loop invariant-loop2 decreases-loop2 invariant-loop3 decreases-loop3)
+first_is : (c : tie.After-is_utf8_1 invariant-loop decreases-loop invariant-loop2 decreases-loop2 invariant-loop3 decreases-loop3)
     → let l = c.before.before.before in
     let l2 = l.before.before.before.before in
-    c.is_utf8_1.result ≡ leb 1 (ascii_run (drop l.loop3.at l2.before.before.before.before.before.before.args.s.now))
-first_is c = c.is_utf8_1.ensures ∙ first_left _ c.before.before.before.loop3.at (omega arith)
+    c.is_utf8_1.result ≡ leb 1 (ascii_run (drop l.loop-at-3.at l2.before.before.before.before.before.before.args.s.now))
+first_is c = c.is_utf8_1.ensures ∙ first_left _ c.before.before.before.loop-at-3.at (omega arith)
 
-loop3_again : tie.Need-loop3-preserved invariant-loop decreases-loop invariant-loop2 decreases-loop2 invariant-loop3 decreases-loop3
-loop3_again c = passed c.before.before.before.before.loop3.invariant 1 (sym c.if3.true ∙ first_is c.before)
+loop3_again : tie.Need-loop-at-3-preserved invariant-loop decreases-loop invariant-loop2 decreases-loop2 invariant-loop3 decreases-loop3
+loop3_again c = passed c.before.before.before.before.loop-at-3.invariant 1 (sym c.if-is_utf8_1.true ∙ first_is c.before)
 
 pub run_spec : {M : Type 1} → statement M
 run_spec =
@@ -78,7 +78,7 @@ run_spec =
     (λ c. omega (arith, loop-again c))
     (λ c. omega (arith, loop-again c))
     loop-again
-    (λ c. c.before.before.before.loop.invariant)
+    (λ c. c.before.before.before.loop-at.invariant)
     (λ c. search rules)
     (λ c. search rules)
     (λ c. search rules)
@@ -86,11 +86,11 @@ run_spec =
     (λ c. omega (arith, loop2_again c))
     (λ c. omega (arith, loop2_again c))
     loop2_again
-    (λ c. c.before.before.before.loop2.invariant)
+    (λ c. c.before.before.before.loop-at-2.invariant)
     (λ c. search rules)
     (λ c κs. search rules)
     (λ c. omega (arith, loop3_again c))
     (λ c. omega (arith, loop3_again c))
     loop3_again
-    (λ c. none_left c.before.before.before.before.loop3.invariant (sym c.if3.false ∙ first_is c.before))
-    (λ c. ended c.before.loop3.invariant c.loop3-test.false))
+    (λ c. none_left c.before.before.before.before.loop-at-3.invariant (sym c.if-is_utf8_1.false ∙ first_is c.before))
+    (λ c. ended c.before.loop-at-3.invariant c.loop-at-3-test.false))

@@ -5,7 +5,7 @@ use Rattle.ascii.proofs.Runs.{in_parts, from_there, too_short}
 use Rattle.ascii.proofs.sixteen.Statement.{statement}
 use Rattle.ascii.proofs.sixteen.Tie as tie
 
-returns_2 : tie.Need-returns-2
+returns_2 : tie.Need-returns
 returns_2 c =
     let q3 = c.before.before in
     let q2 = q3.before.before in
@@ -16,13 +16,13 @@ returns_2 c =
       in_parts 8 4 s,
       in_parts 4 4 s,
       q1.four.ensures,
-      from_there 4 s 4 (omega arith) q2.four2.ensures,
-      from_there 4 s 8 (omega arith) q3.four3.ensures,
-      from_there 4 s 12 (omega arith) c.four4.ensures,
+      from_there 4 s 4 (omega arith) q2.four-2.ensures,
+      from_there 4 s 8 (omega arith) q3.four-3.ensures,
+      from_there 4 s 12 (omega arith) c.four-4.ensures,
     )
 
-pub sixteen-spec : {M : Type 1} → statement M
-sixteen-spec =
+pub sixteen_spec : {M : Type 1} → statement M
+sixteen_spec =
     tie.close
     (tie.spec
     (λ c. too_short 16 c.before.before.args.s.now (omega arith))

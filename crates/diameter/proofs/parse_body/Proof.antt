@@ -19,7 +19,7 @@ headed b = body _ _ _ b.requires.1
 
 -- the length has four bytes
 short : (b : tie.Start) → b.args.header.length ≤ last_place
-short b = omega (arith, b.well_formed_lem)
+short b = omega (arith, b.well_formed)
 
 -- what was answered of the body
 abbrev read : tie.After-slice-known2 → tie.After-parse-avps

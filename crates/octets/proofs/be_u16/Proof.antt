@@ -9,5 +9,5 @@ returns : tie.Need-returns
 unfolding be
 returns c = record { is = omega arith; small = omega arith }
 
-pub be-u16-spec : {M : Type 1} → statement M
-be-u16-spec = tie.close (tie.spec (λ c κs. search rules) (λ c. search rules) (λ c κs. search rules) (λ c. search rules) returns)
+pub be_u16_spec : {M : Type 1} → statement M
+be_u16_spec = tie.close (tie.spec (λ c κs. search rules) (λ c. search rules) (λ c κs. search rules) (λ c. search rules) returns)

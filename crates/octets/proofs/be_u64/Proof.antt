@@ -9,8 +9,8 @@ returns : tie.Need-returns
 unfolding be
 returns c = record { is = omega arith; small = omega arith }
 
-pub be-u64-spec : {M : Type 1} → statement M
-be-u64-spec =
+pub be_u64_spec : {M : Type 1} → statement M
+be_u64_spec =
     tie.close
     (tie.spec
     (λ c κs. search rules)

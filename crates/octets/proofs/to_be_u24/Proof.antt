@@ -9,5 +9,5 @@ returns : tie.Need-returns
 unfolding octets
 returns c = refl
 
-pub to-be-u24-spec : {M : Type 1} → statement M
-to-be-u24-spec = tie.close (tie.spec (λ c. search rules) (λ c. search rules) (λ c. search rules) returns)
+pub to_be_u24_spec : {M : Type 1} → statement M
+to_be_u24_spec = tie.close (tie.spec (λ c. search rules) (λ c. search rules) (λ c. search rules) returns)

@@ -6,7 +6,7 @@ use Rattle.octets.proofs.to_be_u32.Tie as tie
 
 returns : tie.Need-returns
 unfolding octets
-returns c = rw c.to_be_u24.ensures
+returns c = rw c.to_be_u24-low.ensures
 
-pub to-be-u32-spec : {M : Type 1} → statement M
-to-be-u32-spec {M} = tie.close (search (tie.spec {M = M} (λ c κs. search rules) (λ c. search rules), returns, rules))
+pub to_be_u32_spec : {M : Type 1} → statement M
+to_be_u32_spec {M} = tie.close (search (tie.spec {M = M} (λ c κs. search rules) (λ c. search rules), returns, rules))

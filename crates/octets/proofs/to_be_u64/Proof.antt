@@ -9,7 +9,7 @@ returns : tie.Need-returns
 unfolding octets
 returns c =
     let v = c.before.before.args.v in
-    rw (c.before.to_be_u32.ensures, c.to-be-u322.ensures) (cc (written_low 4 v, written_parts 4 4 v))
+    rw (c.before.to_be_u32-high.ensures, c.to_be_u32-low.ensures) (cc (written_low 4 v, written_parts 4 4 v))
 
-pub to-be-u64-spec : {M : Type 1} → statement M
-to-be-u64-spec {M} = tie.close (search (tie.spec {M = M} (λ c. search rules) (λ c κs. search rules) (λ c. search rules), returns, rules))
+pub to_be_u64_spec : {M : Type 1} → statement M
+to_be_u64_spec {M} = tie.close (search (tie.spec {M = M} (λ c. search rules) (λ c κs. search rules) (λ c. search rules), returns, rules))

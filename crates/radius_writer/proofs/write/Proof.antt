@@ -43,7 +43,7 @@ header b = header_as b.args.fields
 -- the authenticator is as long as its type says
 told : (b : tie.Start) → length (header b).authenticator ≡ authenticator_size
 unfolding header_as
-told b = sixteen b.args.fields _ b.well_formed_lem.0
+told b = sixteen b.args.fields _ b.well_formed.0
 
 -- past its refusals the table keeps the rules
 keep : (c : tie.Else2) → let b = start c.before.before in Every (λ r. keeps (length (pool b)) r ≡ true) (table_of (table b))

@@ -17,8 +17,8 @@ returns c =
     let small : h * 256 + a.low ≡ h * 256 + a.low % 256 = omega arith in
     let parts =
     ap (octets 4) small ∙ written_joined 3 1 h a.low ∙ ap (λ (s : List ℕ). s ++ octets 1 a.low) (written_low 3 a.high) in
-    c.before.before.put-u32.ensures ∙ ap (λ (s : List ℕ). sets a.store.now a.at s) parts
+    c.before.before.put_u32.ensures ∙ ap (λ (s : List ℕ). sets a.store.now a.at s) parts
 
-pub put-u24-u8-spec : {M : Type 1} → statement M
-put-u24-u8-spec =
+pub put_u24_u8_spec : {M : Type 1} → statement M
+put_u24_u8_spec =
     tie.close (tie.spec (λ c. search rules) (λ c. search rules) (λ c κs. search rules) (λ c. search rules) returns)

@@ -9,7 +9,7 @@ use Rattle.record.proofs.put_u64.Tie as tie
 returns : tie.Need-returns
 returns c =
     let a = c.before.before.before.before.before.args in
-    number_put_at 8 _ a.store.now a.at (a.at + 8 - a.at) _ (omega arith) (omega arith) c.before.before.put-u64.ensures
+    number_put_at 8 _ a.store.now a.at (a.at + 8 - a.at) _ (omega arith) (omega arith) c.before.before.put_u64.ensures
 
-pub put-u64-spec : {M : Type 1} → statement M
-put-u64-spec = tie.close (tie.spec (λ c. search rules) (λ c. search rules) (λ c. search rules) (λ c. search rules) (λ c κs. tt) (λ c. search rules) returns)
+pub put_u64_spec : {M : Type 1} → statement M
+put_u64_spec = tie.close (tie.spec (λ c. search rules) (λ c. search rules) (λ c. search rules) (λ c. search rules) (λ c κs. tt) (λ c. search rules) returns)

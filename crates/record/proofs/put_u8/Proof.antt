@@ -11,5 +11,5 @@ returns : tie.Need-returns
 unfolding octets
 returns c = let small : c.args.v % 256 ≡ c.args.v = omega arith in rw small
 
-pub put-u8-spec : {M : Type 1} → statement M
-put-u8-spec = tie.close (tie.spec (λ c. search rules) (λ c. search rules) returns)
+pub put_u8_spec : {M : Type 1} → statement M
+put_u8_spec = tie.close (tie.spec (λ c. search rules) (λ c. search rules) returns)

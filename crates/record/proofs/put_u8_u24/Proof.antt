@@ -11,8 +11,8 @@ use Rattle.record.proofs.put_u8_u24.Tie as tie
 returns : tie.Need-returns
 returns c =
     let a = c.before.before.before.before.before.args in
-    c.before.before.put-u32.ensures ∙ ap (λ (s : List ℕ). sets a.store.now a.at s) (written_joined 1 3 a.high a.low)
+    c.before.before.put_u32.ensures ∙ ap (λ (s : List ℕ). sets a.store.now a.at s) (written_joined 1 3 a.high a.low)
 
-pub put-u8-u24-spec : {M : Type 1} → statement M
-put-u8-u24-spec =
+pub put_u8_u24_spec : {M : Type 1} → statement M
+put_u8_u24_spec =
     tie.close (tie.spec (λ c. search rules) (λ c. search rules) (λ c κs. search rules) (λ c. search rules) returns)

@@ -10,5 +10,5 @@ use Rattle.record.proofs.word.Tie as tie
 returns : tie.Need-returns
 returns c = let at = c.before.before.before.args.at in c.be_u32.ensures ∙ be_part 4 _ (at + 4 - at) at (omega arith)
 
-pub word-spec : {M : Type 1} → statement M
-word-spec = tie.close (tie.spec (λ c. search rules) (λ c. search rules) (λ c. search rules) (λ c. search rules) (λ c κs. tt) returns)
+pub word_spec : {M : Type 1} → statement M
+word_spec = tie.close (tie.spec (λ c. search rules) (λ c. search rules) (λ c. search rules) (λ c. search rules) (λ c κs. tt) returns)

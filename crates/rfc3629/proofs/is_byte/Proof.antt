@@ -23,5 +23,5 @@ one_byte b v =
       | inr e ↦ let is = eqb-true b v e in rw (e, le-leb v b (omega arith), le-leb b v (omega arith))
     ]
 
-pub is-byte-spec : {M : Type 1} → statement M
-is-byte-spec = tie.close (tie.spec (λ c. one_byte c.args.b c.args.value))
+pub is_byte_spec : {M : Type 1} → statement M
+is_byte_spec = tie.close (tie.spec (λ c. one_byte c.args.b c.args.value))

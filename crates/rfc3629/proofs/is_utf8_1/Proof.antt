@@ -4,5 +4,5 @@ use borrow.Author.Rules.{rules}
 use Rattle.rfc3629.proofs.is_utf8_1.Statement.{statement}
 use Rattle.rfc3629.proofs.is_utf8_1.Tie as tie
 
-pub is-utf8-1-spec : {M : Type 1} → statement M
-is-utf8-1-spec = tie.close (tie.spec (λ c κs. search rules) (λ c. simp (and-true, or-false) (cc)))
+pub is_utf8_1_spec : {M : Type 1} → statement M
+is_utf8_1_spec = tie.close (tie.spec (λ c κs. search rules) (λ c. simp (and-true, or-false) (cc)))

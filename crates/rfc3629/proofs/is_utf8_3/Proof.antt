@@ -10,13 +10,13 @@ returns c =
     let row2 = row3.before.before.before in
     let row1 = row2.before.before.before in
     four_rows
-    (row_3 row1.before.before.is_byte_lem.ensures row1.before.in_range.ensures row1.is_tail.ensures)
-    (row_3 row2.before.before.in-range2.ensures row2.before.is-tail2.ensures row2.is-tail3.ensures)
-    (row_3 row3.before.before.is-byte2.ensures row3.before.in-range3.ensures row3.is-tail4.ensures)
-    (row_3 c.before.before.in-range4.ensures c.before.is-tail5.ensures c.is-tail6.ensures)
+    (row_3 row1.before.before.is_byte.ensures row1.before.in_range.ensures row1.is_tail.ensures)
+    (row_3 row2.before.before.in_range-2.ensures row2.before.is_tail-2.ensures row2.is_tail-3.ensures)
+    (row_3 row3.before.before.is_byte-2.ensures row3.before.in_range-3.ensures row3.is_tail-4.ensures)
+    (row_3 c.before.before.in_range-4.ensures c.before.is_tail-5.ensures c.is_tail-6.ensures)
 
-pub is-utf8-3-spec : {M : Type 1} → statement M
-is-utf8-3-spec =
+pub is_utf8_3_spec : {M : Type 1} → statement M
+is_utf8_3_spec =
     tie.close
     (tie.spec
     (λ c κs. search rules)

@@ -9,12 +9,12 @@ returns c =
     let row2 = c.before.before.before.before in
     let row1 = row2.before.before.before.before in
     three_rows
-    (row_4 row1.before.before.before.is_byte_lem.ensures row1.before.before.in_range.ensures row1.before.is_tail.ensures row1.is-tail2.ensures)
-    (row_4 row2.before.before.before.in-range2.ensures row2.before.before.is-tail3.ensures row2.before.is-tail4.ensures row2.is-tail5.ensures)
-    (row_4 c.before.before.before.is-byte2.ensures c.before.before.in-range3.ensures c.before.is-tail6.ensures c.is-tail7.ensures)
+    (row_4 row1.before.before.before.is_byte.ensures row1.before.before.in_range.ensures row1.before.is_tail.ensures row1.is_tail-2.ensures)
+    (row_4 row2.before.before.before.in_range-2.ensures row2.before.before.is_tail-3.ensures row2.before.is_tail-4.ensures row2.is_tail-5.ensures)
+    (row_4 c.before.before.before.is_byte-2.ensures c.before.before.in_range-3.ensures c.before.is_tail-6.ensures c.is_tail-7.ensures)
 
-pub is-utf8-4-spec : {M : Type 1} → statement M
-is-utf8-4-spec =
+pub is_utf8_4_spec : {M : Type 1} → statement M
+is_utf8_4_spec =
     tie.close
     (tie.spec
     (λ c κs. search rules)

@@ -308,8 +308,8 @@ pub +check-run-spec : {M : Type 1} → statement M
     invariant-loop
     decreases-loop
     (λ c. (omega arith, omega arith, λ earlier e p. none_walked _ _ earlier _ _ e))
-    (λ c. omega (arith, c.before.before.before.well_formed_lem))
-    (λ c. omega (arith, c.before.before.before.well_formed_lem))
+    (λ c. omega (arith, c.before.before.before.well_formed))
+    (λ c. omega (arith, c.before.before.before.well_formed))
     (λ c. omega arith)
     (λ c. search rules)
     (λ c. omega arith)

@@ -10,7 +10,7 @@ use Rattle.record.specs.Table.{table_of}
 use Rattle.record.proofs.Tables.{table_length}
 use Rattle.rules.specs.Checking.{Walked, Ended, Checks}
 use Rattle.rules.proofs.Runs.{said_of}
-use Rattle.rules.proofs.Answered.{is_bad, above, cut_off, all}
+use Rattle.rules.proofs.Answered.{is_bad, above, all}
 use Rattle.rules.proofs.check.Statement.{statement}
 use Rattle.rules.proofs.check.Tie as tie
 

@@ -24,10 +24,10 @@ few b =
     omega (arith, sizes (drop b.args.at b.args.payload.now), t.fields.size_is, t.fields.length_is)
 
 add_padding : tie.Need-overflow-add-padding
-add_padding c = omega (arith, standing c.before.before, c.before.before.well_formed_lem)
+add_padding c = omega (arith, standing c.before.before, c.before.before.well_formed)
 
 add_next : tie.Need-overflow-add-next
-add_next c = omega (arith, standing c.before.before.before, c.before.before.before.well_formed_lem)
+add_next c = omega (arith, standing c.before.before.before, c.before.before.before.well_formed)
 
 cast_t7 : tie.Need-overflow-cast-t7
 cast_t7 c =
@@ -41,7 +41,7 @@ cast_t7 c =
     )
 
 add_t9 : tie.Need-overflow-add-t9
-add_t9 c = omega (arith, standing (start c), (start c).well_formed_lem, c.header_size.ensures)
+add_t9 c = omega (arith, standing (start c), (start c).well_formed, c.header_size.ensures)
 
 sub_t10 : tie.Need-overflow-sub-t10
 sub_t10 c = omega (arith, standing (start c.before))

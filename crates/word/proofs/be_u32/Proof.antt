@@ -8,16 +8,16 @@ use Rattle.word.proofs.Words.{turned_are}
 use Rattle.word.proofs.be_u32.Statement.{statement}
 use Rattle.word.proofs.be_u32.Tie as tie
 
-returns_2 : tie.Need-returns-2
+returns_2 : tie.Need-returns
 returns_2 c =
     let start = c.before.before.before.before in
     let s = start.before.args.s.now in
     let low = c.before.before.low_first.ensures in
-    let bytes = c.before.to_be_u32.ensures ∙ turned_are s (λ i. omega (arith, start.shared-slice-known.given i)) _ low in
+    let bytes = c.before.to_be_u32-b.ensures ∙ turned_are s (λ i. omega (arith, start.shared_slice_known-1.given i)) _ low in
     read_at 4 s 0 _ (rw bytes at c.be_u32.ensures)
 
-pub be-u32-spec : {M : Type 1} → statement M
-be-u32-spec =
+pub be_u32_spec : {M : Type 1} → statement M
+be_u32_spec =
     tie.close
     (tie.spec
     (λ c κs. search rules)

@@ -7,20 +7,20 @@ use Rattle.octets.proofs.Numbers.{be_drop, be_absent, read_parts}
 use Rattle.word.proofs.be_u64.Statement.{statement}
 use Rattle.word.proofs.be_u64.Tie as tie
 
-returns : tie.Need-returns
+returns : tie.Need-returns-then-s-lt-U32_SIZE
 returns c =
     let s = c.before.before.before.args.s.now in
     omega (arith, c.before.be_u32.ensures, read_parts 4 4 s 0, be_absent 4 s 4 (omega arith))
 
-returns_2 : tie.Need-returns-2
+returns_2 : tie.Need-returns
 returns_2 c =
     let first = c.before.before.before in
     let s = first.before.before.args.s.now in
-    let low = rw (rest s 4 (omega arith)) at c.be-u322.ensures in
+    let low = rw (rest s 4 (omega arith)) at c.be_u32-2.ensures in
     omega (arith, first.be_u32.ensures, low, read_parts 4 4 s 0, be_drop 4 s 4)
 
-pub be-u64-spec : {M : Type 1} → statement M
-be-u64-spec =
+pub be_u64_spec : {M : Type 1} → statement M
+be_u64_spec =
     tie.close
     (tie.spec
     (λ c κs. tt)

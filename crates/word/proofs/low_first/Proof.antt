@@ -4,7 +4,7 @@ use Rattle.word.proofs.low_first.Statement.{statement}
 use Rattle.word.proofs.low_first.Tie as tie
 
 returns : tie.Need-returns
-returns c = c.low-u32.ensures
+returns c = c.low_u32.ensures
 
-pub low-first-spec : {M : Type 1} → statement M
-low-first-spec = tie.close (tie.spec (λ c. omega arith) (λ c. omega arith) (λ c. omega arith) (λ c. omega arith) (λ c κs. tt) returns)
+pub low_first_spec : {M : Type 1} → statement M
+low_first_spec = tie.close (tie.spec (λ c. omega arith) (λ c. omega arith) (λ c. omega arith) (λ c. omega arith) (λ c κs. tt) returns)

@@ -9,8 +9,8 @@ returns : tie.Need-returns
 unfolding be
 returns c = record { is = omega arith; small = omega arith }
 
-pub low-u32-spec : {M : Type 1} → statement M
-low-u32-spec =
+pub low_u32_spec : {M : Type 1} → statement M
+low_u32_spec =
     tie.close
     (tie.spec
     (λ c. search rules)

@@ -9,24 +9,24 @@ use Rattle.word.proofs.LastFirst.{stored, same_length, four_stored, number_put, 
 use Rattle.word.proofs.put_u32.Statement.{statement}
 use Rattle.word.proofs.put_u32.Tie as tie
 
-returns : tie.Need-returns
+returns : tie.Need-returns-then-out-lt-U32_SIZE
 returns c = no_number_put 4 _ _ (omega arith)
 
 -- the code's store, so far
-abbrev after : tie.After-to-be-u32 → ℕ → List ℕ
-after c = stored c.before.before.before.before.args.out.now 0 c.to_be_u32.result 3
+abbrev after : tie.After-to_be_u32-b → ℕ → List ℕ
+after c = stored c.before.before.before.before.args.out.now 0 c.to_be_u32-b.result 3
 
-kept : (c : tie.After-to-be-u32) (n : ℕ) → length (after c n) ≡ length c.before.before.before.before.args.out.now
-kept c = same_length c.before.before.before.before.args.out.now 0 c.to_be_u32.result 3
+kept : (c : tie.After-to_be_u32-b) (n : ℕ) → length (after c n) ≡ length c.before.before.before.before.args.out.now
+kept c = same_length c.before.before.before.before.args.out.now 0 c.to_be_u32-b.result 3
 
-within : (c : tie.After-to-be-u32) (n : ℕ) → n < 3 → suc n < length (after c n)
+within : (c : tie.After-to_be_u32-b) (n : ℕ) → n < 3 → suc n < length (after c n)
 within c n h = let k = kept c n in omega arith
 
-returns_2 : tie.Need-returns-2
-returns_2 c = four_stored _ _ _ _ (c.to_be_u32.ensures ∙ c.before.swap-u32.ensures) ∙ number_put 4 _ _ (omega arith)
+returns_2 : tie.Need-returns
+returns_2 c = four_stored _ _ _ _ (c.to_be_u32-b.ensures ∙ c.before.swap_u32.ensures) ∙ number_put 4 _ _ (omega arith)
 
-pub put-u32-spec : {M : Type 1} → statement M
-put-u32-spec =
+pub put_u32_spec : {M : Type 1} → statement M
+put_u32_spec =
     tie.close
     (tie.spec
     returns

@@ -9,24 +9,24 @@ use Rattle.word.proofs.LastFirst.{stored, same_length, eight_stored, number_put,
 use Rattle.word.proofs.put_u64.Statement.{statement}
 use Rattle.word.proofs.put_u64.Tie as tie
 
-returns : tie.Need-returns
+returns : tie.Need-returns-then-out-lt-U64_SIZE
 returns c = no_number_put 8 _ _ (omega arith)
 
 -- the code's store, so far
-abbrev after : tie.After-to-be-u64 → ℕ → List ℕ
-after c = stored c.before.before.before.before.args.out.now 0 c.to_be_u64.result 7
+abbrev after : tie.After-to_be_u64-b → ℕ → List ℕ
+after c = stored c.before.before.before.before.args.out.now 0 c.to_be_u64-b.result 7
 
-kept : (c : tie.After-to-be-u64) (n : ℕ) → length (after c n) ≡ length c.before.before.before.before.args.out.now
-kept c = same_length c.before.before.before.before.args.out.now 0 c.to_be_u64.result 7
+kept : (c : tie.After-to_be_u64-b) (n : ℕ) → length (after c n) ≡ length c.before.before.before.before.args.out.now
+kept c = same_length c.before.before.before.before.args.out.now 0 c.to_be_u64-b.result 7
 
-within : (c : tie.After-to-be-u64) (n : ℕ) → n < 7 → suc n < length (after c n)
+within : (c : tie.After-to_be_u64-b) (n : ℕ) → n < 7 → suc n < length (after c n)
 within c n h = let k = kept c n in omega arith
 
-returns_2 : tie.Need-returns-2
-returns_2 c = eight_stored _ _ _ _ (c.to_be_u64.ensures ∙ c.before.swap-u64.ensures) ∙ number_put 8 _ _ (omega arith)
+returns_2 : tie.Need-returns
+returns_2 c = eight_stored _ _ _ _ (c.to_be_u64-b.ensures ∙ c.before.swap_u64.ensures) ∙ number_put 8 _ _ (omega arith)
 
-pub put-u64-spec : {M : Type 1} → statement M
-put-u64-spec =
+pub put_u64_spec : {M : Type 1} → statement M
+put_u64_spec =
     tie.close
     (tie.spec
     returns

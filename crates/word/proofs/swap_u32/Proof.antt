@@ -7,7 +7,7 @@ use Rattle.word.proofs.swap_u32.Tie as tie
 
 returns : tie.Need-returns
 unfolding octets
-returns c = turned 4 _ _ (rw c.before.to_be_u32.ensures at c.be_u32.ensures)
+returns c = turned 4 _ _ (rw c.before.to_be_u32-b.ensures at c.be_u32.ensures)
 
-pub swap-u32-spec : {M : Type 1} → statement M
-swap-u32-spec = tie.close (search (tie.spec, returns, rules))
+pub swap_u32_spec : {M : Type 1} → statement M
+swap_u32_spec = tie.close (search (tie.spec, returns, rules))

@@ -7,7 +7,7 @@ use Rattle.word.proofs.swap_u64.Tie as tie
 
 returns : tie.Need-returns
 unfolding octets
-returns c = turned 8 _ _ (rw c.before.to_be_u64.ensures at c.be_u64.ensures)
+returns c = turned 8 _ _ (rw c.before.to_be_u64-b.ensures at c.be_u64.ensures)
 
-pub swap-u64-spec : {M : Type 1} → statement M
-swap-u64-spec = tie.close (search (tie.spec, returns, rules))
+pub swap_u64_spec : {M : Type 1} → statement M
+swap_u64_spec = tie.close (search (tie.spec, returns, rules))

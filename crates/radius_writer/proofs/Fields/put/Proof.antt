@@ -22,7 +22,7 @@ filled c = c.before.before.before.before.before
 
 -- the authenticator is as long as its type says
 told : (b : tie.Start) → length b.args.t1.authenticator ≡ authenticator_size
-told b = sixteen b.args.t1 _ b.well_formed_lem.0
+told b = sixteen b.args.t1 _ b.well_formed.0
 
 returns : tie.Need-returns
 unfolding header_as

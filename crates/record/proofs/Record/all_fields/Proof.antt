@@ -8,10 +8,10 @@ use Rattle.record.proofs.Record.all_fields.Statement.{statement}
 use Rattle.record.proofs.Record.all_fields.Tie as tie
 
 returns : tie.Need-returns
-returns c = whole_is _ _ _ _ c.before.before.before.fields.ensures refl (c.be_u64.ensures ∙ be_part 8 _ 8 24 (omega arith))
+returns c = whole_is _ _ _ _ c.before.before.before.fields-r.ensures refl (c.be_u64.ensures ∙ be_part 8 _ 8 24 (omega arith))
 
-pub all-fields-spec : {M : Type 1} → statement M
-all-fields-spec =
+pub all_fields_spec : {M : Type 1} → statement M
+all_fields_spec =
     tie.close
     (tie.spec
     (λ c κs. search rules)

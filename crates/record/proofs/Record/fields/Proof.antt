@@ -17,12 +17,12 @@ returns c =
     let pads = code.before in
     let flags = pads.before in
     let table = flags.before.before.args.table.now in
-    let are = fields_are table (λ i. omega (arith, known.shared-slice-known4.given i)) _ in
-    let first = are code.word3.ensures (ap (λ (w : ℕ). w / 0x1000000) flags.word.ensures) (ap (λ (w : ℕ). w % 0x1000000) flags.word.ensures) in
-    first vendor.word4.ensures place.word5.ensures refl refl refl refl (ap (λ (w : ℕ). w / 256) pads.word2.ensures) refl c.word6.ensures
+    let are = fields_are table (λ i. omega (arith, known.shared_slice_known-4-1.given i)) _ in
+    let first = are code.word.ensures (ap (λ (w : ℕ). w / 0x1000000) flags.word-flags_length.ensures) (ap (λ (w : ℕ). w % 0x1000000) flags.word-flags_length.ensures) in
+    first vendor.word-2.ensures place.word-3.ensures refl refl refl refl (ap (λ (w : ℕ). w / 256) pads.word-pads.ensures) refl c.word-4.ensures
 
-pub fields-spec : {M : Type 1} → statement M
-fields-spec =
+pub fields_spec : {M : Type 1} → statement M
+fields_spec =
     tie.close
     (tie.spec
     (λ c κs. search rules)

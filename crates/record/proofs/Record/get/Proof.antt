@@ -7,7 +7,7 @@ use Rattle.record.proofs.Absent.{record_over_zeros}
 use Rattle.record.proofs.Record.get.Statement.{statement}
 use Rattle.record.proofs.Record.get.Tie as tie
 
-returns : tie.Need-returns
+returns : tie.Need-returns-then-table-lt-SIZE
 unfolding entry_at
 returns c = c.fields.ensures ∙ rw c.before.before.padded.ensures (ap bare (record_over_zeros _ 36))
 

@@ -30,17 +30,17 @@ returns c =
     let depth = kind.before.before.before.before in
     let place = depth.before.before.before.before in
     as_one place.before.before.before.args.self _ _ _ _ _ _ _ _ _
-    place.put-u32.ensures
-    depth.put-u8.ensures
-    kind.put-u82.ensures
-    errors.put-u83.ensures
-    padding.put-u84.ensures
-    pads.put-u24-u8.ensures
-    value.put-u64.ensures
-    parent.put-u322.ensures
+    place.put_u32.ensures
+    depth.put_u8.ensures
+    kind.put_u8-2.ensures
+    errors.put_u8-3.ensures
+    padding.put_u8-4.ensures
+    pads.put_u24_u8.ensures
+    value.put_u64.ensures
+    parent.put_u32-2.ensures
 
-pub put-data-spec : {M : Type 1} → statement M
-put-data-spec =
+pub put_data_spec : {M : Type 1} → statement M
+put_data_spec =
     tie.close
     (tie.spec
     (λ c κs. search rules)

@@ -10,9 +10,9 @@ returns c =
     let vendor = c.before.before in
     let flags = vendor.before.before.before.before in
     let code = flags.before.before.before.before in
-    rw (vendor.put-u322.ensures, flags.put-u8-u24.ensures, code.put-u32.ensures)
+    rw (vendor.put_u32-2.ensures, flags.put_u8_u24.ensures, code.put_u32.ensures)
 
-pub put-header-spec : {M : Type 1} → statement M
-put-header-spec =
+pub put_header_spec : {M : Type 1} → statement M
+put_header_spec =
     tie.close
     (tie.spec (λ c κs. search rules) (λ c κs. search rules) (λ c κs. search rules) (λ c. search rules) returns)

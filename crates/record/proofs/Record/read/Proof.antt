@@ -6,8 +6,8 @@ use Rattle.record.proofs.Absent.{record_over_zeros}
 use Rattle.record.proofs.Record.read.Statement.{statement}
 use Rattle.record.proofs.Record.read.Tie as tie
 
-returns : tie.Need-returns
-returns c = c.all-fields.ensures ∙ rw c.before.before.padded.ensures (record_over_zeros _ 36)
+returns : tie.Need-returns-then-table-lt-SIZE
+returns c = c.all_fields.ensures ∙ rw c.before.before.padded.ensures (record_over_zeros _ 36)
 
 pub read_spec : {M : Type 1} → statement M
 read_spec =

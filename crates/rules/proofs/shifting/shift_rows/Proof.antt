@@ -73,7 +73,7 @@ shift-rows-spec =
     (λ c. omega (arith, as_long c.before))
     (λ c. omega (arith, as_long c.before))
     (λ c κs. (next c.before).0)
-    (λ c. let l = c.before.before.before.before.before in omega (arith, (start l).well_formed_lem))
+    (λ c. let l = c.before.before.before.before.before in omega (arith, (start l).well_formed))
     (λ c. omega arith)
     loop-again
     (λ c. as_long c.before)

@@ -86,7 +86,7 @@ emit-leaf-spec =
     (λ c κs. tt)
     (λ c. search rules)
     (λ c. search rules)
-    (λ c. omega (arith, (start c.before.before).well_formed_lem))
+    (λ c. omega (arith, (start c.before.before).well_formed))
     (λ c. search rules)
     (λ c. omega (arith, sizes c.before.before.before))
     (λ c. omega (arith, sizes c.before.before.before))
