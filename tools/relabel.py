@@ -16,7 +16,7 @@ plain = lambda name: name.replace("_", "-")
 
 class Names:
     def __init__(self):
-        self.needs, self.places, self.loops, self.steps = {}, {}, {}, {}
+        self.needs, self.places, self.loops, self.steps, self.arms = {}, {}, {}, {}, {}
 
     def take(self, of, prefix=""):
         stem = of.get("stem") or ""
@@ -32,6 +32,11 @@ class Names:
                 self.steps.setdefault(plain(old), new)
             if stem:
                 self.places.setdefault(plain(stem + place[0]), stem + name)
+        # an arm of a match is one step, with what was learnt of the value as fields
+        for arm in filter(None, of["arms"]):
+            for new, step, path in arm[2]:
+                if path:
+                    self.arms.setdefault(plain(step) + "." + ".".join(path), arm[0] + "." + new)
         for (old, new), _ in of["loops"]:
             self.loops.setdefault(plain(old), new)
 
@@ -57,6 +62,9 @@ def turned(text, names, folder):
     def place(m):
         return m[1] + names.places.get(plain(m[2]), m[2])
 
+    def arm(m):
+        return "." + names.arms.get(plain(m[1]) + m[2], m[1] + m[2])
+
     def step(m):
         return "." + names.steps.get(plain(m[1]), m[1])
 
@@ -69,6 +77,7 @@ def turned(text, names, folder):
     lines = []
     for line in text.split("\n"):
         if not line.startswith("use ") and not line.startswith("--"):
+            line = re.sub(rf"(?<=[\w)'])\.({NAME})((?:\.given(?:\.\d+)*|\.ensures))", arm, line)
             line = re.sub(rf"(?<=[\w)'])\.({NAME})", step, line)
         lines.append(line)
     text = "\n".join(lines)

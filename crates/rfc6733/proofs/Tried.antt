@@ -59,7 +59,7 @@ module _ (D : Dictionary) (s : List ℕ) (w : Whole s) (p : Parts (avps D) s) (i
       let h = head (flags s) in
       let i : 6 * tried inner ≤ words (data_size s) + 2 = rw l at inside.any in
       let r : 6 * tried rest ≤ words (length s - avp_size s) + 2 = rw p.after_length at behind.any in
-      elim b [
+      elim b as (λ b'. Few (node true b' (item (avps D) s) inner rest) (length s)) [
         | true ↦ record { any = omega arith; tiled = λ e. omega (arith, behind.tiled e) }
         | false ↦ record { any = omega arith; tiled = λ e. omega (arith, behind.tiled e) }
       ]

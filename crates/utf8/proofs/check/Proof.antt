@@ -15,56 +15,56 @@ use Rattle.utf8.proofs.Characters.{Passed, ended, stuck, step, run_passed}
 use Rattle.utf8.proofs.check.Statement.{statement}
 use Rattle.utf8.proofs.check.Tie as tie
 
-abbrev invariant-loop : tie.invariant-loop
+abbrev invariant-loop : tie.invariant-loop-at
 invariant-loop s at₀ at = Passed s at
 
-abbrev decreases-loop : tie.decreases-loop
+abbrev decreases-loop : tie.decreases-loop-at
 decreases-loop s at₀ at = length s - at
 
 -- the run of ASCII, and that there is one
-run_is : (c : tie.After-run invariant-loop decreases-loop)
+run_is : (c : tie.After-run-at invariant-loop decreases-loop)
     → let l = c.before.before.before.before.before.before in
-    c.run.result ≡ ascii_run (drop l.loop.at l.before.before.args.s.now)
+    c.run-at.result ≡ ascii_run (drop l.loop-at.at l.before.before.args.s.now)
 run_is c =
     let l = c.before.before.before.before.before.before in
-    rw (rest l.before.before.args.s.now l.loop.at l.loop.invariant.within) at c.run.ensures
+    rw (rest l.before.before.args.s.now l.loop-at.at l.loop-at.invariant.within) at c.run-at.ensures
 
-some_run : (c : tie.After-run invariant-loop decreases-loop) → 0 < c.run.result
+some_run : (c : tie.After-run-at invariant-loop decreases-loop) → 0 < c.run-at.result
 some_run c =
     let ascii = c.before.before in
     let l = ascii.before.before.before.before in
     let s = l.before.before.args.s.now in
-    let starts = sym (first_left s l.loop.at (omega (arith, l.loop.invariant.within))) ∙ sym ascii.before.is_utf8_1.ensures ∙ ascii.if2.true in
-    omega (arith, run_is c, leb-true 1 (ascii_run (drop l.loop.at s)) starts)
+    let starts = sym (first_left s l.loop-at.at (omega (arith, l.loop-at.invariant.within))) ∙ sym ascii.before.is_utf8_1.ensures ∙ ascii.if-is_utf8_1.true in
+    omega (arith, run_is c, leb-true 1 (ascii_run (drop l.loop-at.at s)) starts)
 
-loop-again : tie.Need-loop-preserved invariant-loop decreases-loop
-loop-again c = rw (run_is c) (run_passed c.before.before.before.before.before.before.loop.invariant)
+loop-again : tie.Need-loop-at-preserved-then-is_utf8_1 invariant-loop decreases-loop
+loop-again c = rw (run_is c) (run_passed c.before.before.before.before.before.before.loop-at.invariant)
 
 -- the character, if there is one
-char_size_is : (c : tie.After-char-size invariant-loop decreases-loop)
+char_size_is : (c : tie.After-char_size-size invariant-loop decreases-loop)
     → let l = c.before.before.before.before.before.before in
-    c.char-size.result ≡ char_size (drop l.loop.at l.before.before.args.s.now)
+    c.char_size-size.result ≡ char_size (drop l.loop-at.at l.before.before.args.s.now)
 char_size_is c =
     let l = c.before.before.before.before.before.before in
-    rw (rest l.before.before.args.s.now l.loop.at l.loop.invariant.within) at c.char-size.ensures
+    rw (rest l.before.before.args.s.now l.loop-at.at l.loop-at.invariant.within) at c.char_size-size.ensures
 
-loop-again-2 : tie.Need-loop-preserved-2 invariant-loop decreases-loop
-loop-again-2 c = step c.before.before.before.before.before.before.before.loop.invariant _ (char_size_is c.before) (omega arith)
+loop-again-2 : tie.Need-loop-at-preserved invariant-loop decreases-loop
+loop-again-2 c = step c.before.before.before.before.before.before.before.loop-at.invariant _ (char_size_is c.before) (omega arith)
 
-returns_2 : tie.Need-returns-2 invariant-loop decreases-loop
+returns_2 : tie.Need-returns-then-size-eq0 invariant-loop decreases-loop
 returns_2 c =
-    let passed = c.before.before.before.before.before.before.before.loop.invariant in
-    stuck passed (omega (arith, passed.within)) (sym c.if3.true ∙ char_size_is c.before)
+    let passed = c.before.before.before.before.before.before.before.loop-at.invariant in
+    stuck passed (omega (arith, passed.within)) (sym c.if-size-eq0.true ∙ char_size_is c.before)
 
-pub check-spec : {M : Type 1} → statement M
-check-spec =
+pub check_spec : {M : Type 1} → statement M
+check_spec =
     tie.close
     (tie.spec
     invariant-loop
     decreases-loop
     (λ c. record { within = omega arith; so_far = omega arith })
-    (λ c. ended c.before.loop.invariant (omega arith))
-    (λ c. omega (arith, c.before.before.loop.invariant.within))
+    (λ c. ended c.before.loop-at.invariant (omega arith))
+    (λ c. omega (arith, c.before.before.loop-at.invariant.within))
     (λ c κs. search rules)
     (λ c. search rules)
     (λ c. search rules)

@@ -6,11 +6,11 @@ use Rattle.utf8.proofs.Answers.{says}
 use Rattle.utf8.proofs.is_utf8.Statement.{statement}
 use Rattle.utf8.proofs.is_utf8.Tie as tie
 
-returns : tie.Need-returns
-returns c = sym (says _ WellFormed (sym c.enum_told.given.1 ∙ c.before.before.check.ensures))
+returns : tie.Need-returns-in-WellFormed
+returns c = sym (says _ WellFormed (sym c.in-WellFormed.is ∙ c.before.before.check.ensures))
 
-returns_2 : tie.Need-returns-2
-returns_2 c = sym (says _ (ValidUpTo _) (sym c.enum-told2.given.1 ∙ c.before.before.check.ensures)).ill_formed
+returns_2 : tie.Need-returns-in-ValidUpTo
+returns_2 c = sym (says _ (ValidUpTo _) (sym c.in-ValidUpTo.is ∙ c.before.before.check.ensures)).ill_formed
 
-pub is-utf8-spec : {M : Type 1} → statement M
-is-utf8-spec = tie.close (tie.spec (λ c κs. search rules) (λ c. search rules) (λ c. search rules) returns returns_2)
+pub is_utf8_spec : {M : Type 1} → statement M
+is_utf8_spec = tie.close (tie.spec (λ c κs. search rules) (λ c. search rules) (λ c. search rules) returns returns_2)
