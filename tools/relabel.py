@@ -79,6 +79,8 @@ def turned(text, names, folder):
         if not line.startswith("use ") and not line.startswith("--"):
             line = re.sub(rf"(?<=[\w)'])\.({NAME})((?:\.given(?:\.\d+)*|\.ensures))", arm, line)
             line = re.sub(rf"(?<=[\w)'])\.({NAME})", step, line)
+            # a place has the steps before it
+            line = re.sub(rf"(?<=[\w)'])(?:\.before)+\.(?!before\b)(?=[a-z])", ".", line)
         lines.append(line)
     text = "\n".join(lines)
     # the proof of f is f_spec

@@ -4,7 +4,7 @@ use Rattle.avp.proofs.AVP.get_reserved.Statement.{statement}
 use Rattle.avp.proofs.AVP.get_reserved.Tie as tie
 
 returns : tie.Need-returns
-returns c = and_mask c.before.args.self.flags 5
+returns c = and_mask c.args.self.flags 5
 
-pub get-reserved-spec : {M : Type 1} → statement M
-get-reserved-spec = tie.close (tie.spec returns)
+pub get_reserved_spec : {M : Type 1} → statement M
+get_reserved_spec = tie.close (tie.spec returns)

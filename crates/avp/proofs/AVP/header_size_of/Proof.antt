@@ -4,13 +4,13 @@ use Rattle.rfc6733.specs.Avp.{head_size}
 use Rattle.avp.proofs.AVP.header_size_of.Statement.{statement}
 use Rattle.avp.proofs.AVP.header_size_of.Tie as tie
 
-returns : tie.Need-returns
+returns : tie.Need-returns-then-vendor_specific_flag
 unfolding head_size
-returns c = rw (← c.before.vendor_specific_flag.ensures, c.if1.true)
+returns c = rw (← c.vendor_specific_flag.ensures, c.if-vendor_specific_flag.true)
 
-returns_2 : tie.Need-returns-2
+returns_2 : tie.Need-returns
 unfolding head_size
-returns_2 c = rw (← c.before.vendor_specific_flag.ensures, c.if1.false)
+returns_2 c = rw (← c.vendor_specific_flag.ensures, c.if-vendor_specific_flag.false)
 
-pub header-size-of-spec : {M : Type 1} → statement M
-header-size-of-spec = tie.close (tie.spec (λ c κs. search rules) returns returns_2)
+pub header_size_of_spec : {M : Type 1} → statement M
+header_size_of_spec = tie.close (tie.spec (λ c κs. search rules) returns returns_2)

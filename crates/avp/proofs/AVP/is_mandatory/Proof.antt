@@ -5,7 +5,7 @@ use Rattle.avp.proofs.AVP.is_mandatory.Statement.{statement}
 use Rattle.avp.proofs.AVP.is_mandatory.Tie as tie
 
 returns : tie.Need-returns
-returns c = mask_bit mandatory_bit c.before.args.self.flags
+returns c = mask_bit mandatory_bit c.args.self.flags
 
-pub is-mandatory-spec : {M : Type 1} → statement M
-is-mandatory-spec = tie.close (tie.spec returns)
+pub is_mandatory_spec : {M : Type 1} → statement M
+is_mandatory_spec = tie.close (tie.spec returns)

@@ -5,7 +5,7 @@ use Rattle.avp.proofs.AVP.is_protected.Statement.{statement}
 use Rattle.avp.proofs.AVP.is_protected.Tie as tie
 
 returns : tie.Need-returns
-returns c = mask_bit protected_bit c.before.args.self.flags
+returns c = mask_bit protected_bit c.args.self.flags
 
-pub is-protected-spec : {M : Type 1} → statement M
-is-protected-spec = tie.close (tie.spec returns)
+pub is_protected_spec : {M : Type 1} → statement M
+is_protected_spec = tie.close (tie.spec returns)

@@ -9,5 +9,5 @@ returns : tie.Need-returns
 unfolding padding
 returns c = refl
 
-pub padding-spec : {M : Type 1} → statement M
-padding-spec = tie.close (tie.spec (λ c. search rules) returns)
+pub padding_spec : {M : Type 1} → statement M
+padding_spec = tie.close (tie.spec (λ c. search rules) returns)

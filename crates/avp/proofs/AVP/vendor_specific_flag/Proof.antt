@@ -7,5 +7,5 @@ use Rattle.avp.proofs.AVP.vendor_specific_flag.Tie as tie
 returns : tie.Need-returns
 returns c = mask_bit vendor_bit c.args.flags
 
-pub vendor-specific-flag-spec : {M : Type 1} → statement M
-vendor-specific-flag-spec = tie.close (tie.spec returns)
+pub vendor_specific_flag_spec : {M : Type 1} → statement M
+vendor_specific_flag_spec = tie.close (tie.spec returns)

@@ -17,43 +17,40 @@ use Rattle.utf8.proofs.first_byte.char_size.Tie as tie
 -- ---- UTF8-1 did not match
 
 abbrev text : tie.Else-is_utf8_1 → List ℕ
-text c = c.before.before.before.before.before.args.s.now
+text c = c.args.s.now
 
 not_1 : (c : tie.Else-is_utf8_1) → matches_any Utf8_1 (text c) ≡ false
-not_1 c = first 1 Utf8_1 (text c) (omega arith) ∙ sym c.before.is_utf8_1.ensures ∙ c.if-is_utf8_1.false
+not_1 c = first 1 Utf8_1 (text c) (omega arith) ∙ sym c.is_utf8_1.ensures ∙ c.if-is_utf8_1.false
 
 -- ---- the line that was asked says the size
 
 size_2 : (c : tie.After-is_utf8_2) {p : Bool} → c.is_utf8_2.result ≡ p → cond p 2 0 ≡ char_size (text c.before.before.before.before)
 size_2 c e =
-    let not_ascii = c.before.before.before.before in
-    let s = text not_ascii in
-    line_2 s (not_1 not_ascii) c.before.if-a-le223.true (first 2 Utf8_2 s (omega arith) ∙ sym c.is_utf8_2.ensures ∙ e)
+    let s = text c.before.before.before.before in
+    line_2 s (not_1 c.before.before.before.before) c.if-a-le223.true (first 2 Utf8_2 s (omega arith) ∙ sym c.is_utf8_2.ensures ∙ e)
 
 abbrev text_3 : tie.Else-a-le223 → List ℕ
 text_3 c = text c.before.before.before
 
 size_3 : (c : tie.After-is_utf8_3) {p : Bool} → c.is_utf8_3.result ≡ p → cond p 3 0 ≡ char_size (text_3 c.before.before.before.before)
 size_3 c e =
-    let above = c.before.before.before.before in
-    let s = text_3 above in
-    line_3 s above.if-a-le223.false c.before.if-a-le239.true (first 3 Utf8_3 s (omega arith) ∙ sym c.is_utf8_3.ensures ∙ e)
+    let s = text_3 c.before.before.before.before in
+    line_3 s c.if-a-le223.false c.if-a-le239.true (first 3 Utf8_3 s (omega arith) ∙ sym c.is_utf8_3.ensures ∙ e)
 
 abbrev text_4 : tie.Else-a-le239 → List ℕ
 text_4 c = text_3 c.before.before.before
 
 size_4 : (c : tie.After-is_utf8_4) {p : Bool} → c.is_utf8_4.result ≡ p → cond p 4 0 ≡ char_size (text_4 c.before.before.before)
 size_4 c e =
-    let above = c.before.before.before in
-    let s = text_4 above in
-    line_4 s above.if-a-le239.false (first 4 Utf8_4 s (omega arith) ∙ sym c.is_utf8_4.ensures ∙ e)
+    let s = text_4 c.before.before.before in
+    line_4 s c.if-a-le239.false (first 4 Utf8_4 s (omega arith) ∙ sym c.is_utf8_4.ensures ∙ e)
 
 -- ---- the needs
 
 returns_2 : tie.Need-returns-then-is_utf8_1
 returns_2 c =
-    let s = c.before.before.before.before.before.args.s.now in
-    size_is s (first 1 Utf8_1 s (omega arith) ∙ sym c.before.is_utf8_1.ensures ∙ c.if-is_utf8_1.true) refl refl refl
+    let s = c.args.s.now in
+    size_is s (first 1 Utf8_1 s (omega arith) ∙ sym c.is_utf8_1.ensures ∙ c.if-is_utf8_1.true) refl refl refl
 
 returns-3 : tie.Need-returns-then-n-lt2
 returns-3 c =
@@ -63,31 +60,10 @@ returns-3 c =
 returns-6 : tie.Need-returns-then-n-lt3
 returns-6 c =
     let s = text_3 c.before in
-    from_3 s c.before.if-a-le223.false (short 3 Utf8_3 refl s (omega arith)) (short 4 Utf8_4 refl s (omega arith))
+    from_3 s c.if-a-le223.false (short 3 Utf8_3 refl s (omega arith)) (short 4 Utf8_4 refl s (omega arith))
 
 returns-9 : tie.Need-returns-then-n-lt4
-returns-9 c = let s = text_4 c.before in line_4 s c.before.if-a-le239.false (short 4 Utf8_4 refl s (omega arith))
+returns-9 c = let s = text_4 c.before in line_4 s c.if-a-le239.false (short 4 Utf8_4 refl s (omega arith))
 
 pub char_size_spec : {M : Type 1} → statement M
-char_size_spec =
-    tie.close
-    (tie.spec
-    (λ c. omega (arith, char_there c.before.before.args.s.now))
-    (λ c. search rules)
-    (λ c κs. search rules)
-    returns_2
-    returns-3
-    (λ c. search rules)
-    (λ c κs. search rules)
-    (λ c. size_2 c.before c.if-is_utf8_2.true)
-    (λ c. size_2 c.before c.if-is_utf8_2.false)
-    returns-6
-    (λ c. search rules)
-    (λ c κs. search rules)
-    (λ c. size_3 c.before c.if-is_utf8_3.true)
-    (λ c. size_3 c.before c.if-is_utf8_3.false)
-    returns-9
-    (λ c. search rules)
-    (λ c κs. search rules)
-    (λ c. size_4 c.before c.if-is_utf8_4.true)
-    (λ c. size_4 c.before c.if-is_utf8_4.false))
+char_size_spec = tie.close (tie.spec (λ c. omega (arith, char_there c.args.s.now)) (λ c. search rules) (λ c κs. search rules) returns_2 returns-3 (λ c. search rules) (λ c κs. search rules) (λ c. size_2 c.before c.if-is_utf8_2.true) (λ c. size_2 c.before c.if-is_utf8_2.false) returns-6 (λ c. search rules) (λ c κs. search rules) (λ c. size_3 c.before c.if-is_utf8_3.true) (λ c. size_3 c.before c.if-is_utf8_3.false) returns-9 (λ c. search rules) (λ c κs. search rules) (λ c. size_4 c.before c.if-is_utf8_4.true) (λ c. size_4 c.before c.if-is_utf8_4.false))
