@@ -45,6 +45,8 @@ class Function:
             self.place.setdefault(plain(p[0]), n)
             self.place.setdefault(plain(n), n)
             o, new = p[2]
+            if p[0] == f"At-{o}-rest":
+                self.arms.setdefault(plain(o) + ".rest", new + "-own.rest")
             if o and (new != o + "-1" or o.endswith("known")):
                 self.steps.setdefault(plain(o), new)
             if arm:
@@ -272,7 +274,7 @@ def turn(path, f, own, crate):
                     return f"{lem} (goal.at.{goal} {var}).{q}"
                 return f"{lem} {var}{'.before' * d}"
             t = re.sub(rf"(?<![\w.'-]){re.escape(lem)} {re.escape(var)}((?:\.before)*)(?![\w'.-])", at, t)
-        t = re.sub(rf"(?<=[\w)'])\.({NAME})((?:\.given(?:\.\d+)*|\.ensures))", lambda m: "." + f.arms.get(plain(m[1]) + m[2], m[1] + m[2]), t)
+        t = re.sub(rf"(?<=[\w)'])\.({NAME})((?:\.given(?:\.\d+)*|\.ensures|\.keys\d+|\.rest))", lambda m: "." + f.arms.get(plain(m[1]) + m[2], m[1] + m[2]), t)
         t = re.sub(rf"(?<![\w.'-]){re.escape(var)}((?:\.before)*)\.({NAME})", lambda m: f"{var}{m[1]}.{m[2]}" if m[2] == "before" else f"{var}.{f.steps.get(plain(m[2]), m[2])}", t)
         # the same under a bracket, as (start c).x
         t = re.sub(rf"(?<=\))\.({NAME})", lambda m: "." + f.steps.get(plain(m[1]), m[1]), t)

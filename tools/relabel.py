@@ -77,7 +77,7 @@ def turned(text, names, folder):
     lines = []
     for line in text.split("\n"):
         if not line.startswith("use ") and not line.startswith("--"):
-            line = re.sub(rf"(?<=[\w)'])\.({NAME})((?:\.given(?:\.\d+)*|\.ensures))", arm, line)
+            line = re.sub(rf"(?<=[\w)'])\.({NAME})((?:\.given(?:\.\d+)*|\.ensures|\.keys\d+))", arm, line)
             line = re.sub(rf"(?<=[\w)'])\.({NAME})", step, line)
             # a place has the steps before it
             line = re.sub(rf"(?<=[\w)'])(?:\.before)+\.(?!before\b)(?=[a-z])", ".", line)

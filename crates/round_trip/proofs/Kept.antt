@@ -2,7 +2,7 @@
 -- time. Past as many records as a part has, the table is what is behind that part, and is valid at the depth above. The trees at the
 -- top are the records of depth 1: what is deeper stands under one of them.
 use Prim.Native.Nat.{ℕ, suc, ◌+◌, ◌≤◌}
-use mathlib.Core.Path.{◌≡◌, refl}
+use mathlib.Core.Path.{◌≡◌, refl, ap, ◌∙◌}
 use mathlib.Core.Logic.{inl, inr}
 use mathlib.Core.List.{List, [], ◌∷◌}
 use native.Mathlib.Omega.{arith}
@@ -88,7 +88,7 @@ roots_following allowed n (r ∷ rs) v =
           rw (x, ne_eqb r.depth 1 (λ z. omega (arith, leb-true)), following_following 2 (r.depth + 1) (forest rs) (omega (arith, leb-true))) h
       | inr x ↦
           let one : r.depth ≡ 1 = omega (arith, leb-false) in
-          rw (x, eq-eqb r.depth 1 one, one, h)
+          rw (x, eq-eqb r.depth 1 one) (ap (λ (k : ℕ). r ∷ roots (following (k + 1) (forest rs))) one ∙ ap (λ (l : List Record). r ∷ l) h)
     ]
 
 pub roots_table : (n : ℕ) (rs : List Record) → Valid 1 n rs → roots (forest rs) ≡ of_depth 1 rs

@@ -2,7 +2,7 @@
 -- more is, and what is allowed after any record was allowed before it. So for each depth that is allowed, the last record one depth less is
 -- a group, and what came since is in it.
 use Prim.Native.Nat.{ℕ, ◌+◌, ◌-◌, ◌≤◌}
-use mathlib.Core.Path.{◌≡◌, refl, ap, ◌∙◌}
+use mathlib.Core.Path.{◌≡◌, refl, sym, ap, subst, ◌∙◌}
 use mathlib.Core.Bool.{true}
 use mathlib.Core.Logic.{inl, inr}
 use mathlib.Core.List.{List, [], ◌∷◌}
@@ -63,7 +63,7 @@ open_after allowed r earlier low o d some le =
     elim (decide (is_group r)) [
       | inl e ↦
           elim (decide (eqb d (r.depth + 1))) [
-            | inl z ↦ rw (eqb-true d (r.depth + 1) z) (opened r earlier e)
+            | inl z ↦ subst (λ (x : ℕ). GroupOf (r ∷ earlier) x (last_of (x - 1) (depths (r ∷ earlier)))) (sym (eqb-true d (r.depth + 1) z)) (opened r earlier e)
             | inr z ↦
                 let other = eqb-false d (r.depth + 1) z in
                 let deep : d ≤ r.depth = omega (arith, after_group r e) in

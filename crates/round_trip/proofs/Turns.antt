@@ -77,7 +77,7 @@ module _ (d : ℕ) (s : List ℕ) (some : record_size ≤ length s) (level : (en
 
   run_at : run d s ≡ node (entry_at s) (run (d + 1) (drop record_size s)) (run d (drop (count (one s) * record_size) s))
   unfolding run
-  run_at = rw (table_some s some, level, le-leb d d (omega arith), rest_is, forest_tail (d + 1) others)
+  run_at = rw (table_some s some, level, le-leb d d (omega arith), rest_is, forest_tail (d + 1) others) (cc)
 
 pub turn : (d n : ℕ) (s : List ℕ) → record_size ≤ length s → Valid d n (table_of s) → d ≤ (entry_at s).depth
     → Turn d n s (drop (count (one s) * record_size) s)

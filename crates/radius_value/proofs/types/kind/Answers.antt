@@ -9,8 +9,7 @@ use Rattle.record.specs.Kinds.{unhandled}
 use Rattle.record.specs.Rows.{kind_in, table}
 use Rattle.record.proofs.Rows.{entry_of}
 use Rattle.rfc2865.specs.Types.{attribute_types, kind_of}
-use Rattle.radius_value.proofs.types.kind.Statement.{statement}
-use Rattle.radius_value.proofs.types.kind.Tie as tie
+use Rattle.radius_value.proofs.types.kind.Goals as goal
 
 entry : (code : ℕ) → get_or (table (kind_in attribute_types) 64) code unhandled ≡ kind_of code
 unfolding kind_of
@@ -19,5 +18,8 @@ entry code = entry_of attribute_types 64 (omega arith) code
 past : (code : ℕ) → 64 ≤ code → unhandled ≡ kind_of code
 past code h = sym (get_or-eq_default (table (kind_in attribute_types) 64) unhandled {n = code} (omega arith)) ∙ entry code
 
-pub kind-spec : {M : Type 1} → statement M
-kind-spec = tie.close (tie.spec (λ c. past _ (omega arith)) (λ c. search rules) (λ c. entry _))
+pub returns-then-code-ge-TYPES : goal.returns-then-code-ge-TYPES
+returns-then-code-ge-TYPES c = past _ (omega arith)
+
+pub returns : goal.returns
+returns c = entry _
