@@ -46,7 +46,7 @@ class Function:
             self.place.setdefault(plain(n), n)
             o, new = p[2]
             if p[0] == f"At-{o}-rest":
-                self.arms.setdefault(plain(o) + ".rest", new + "-own.rest")
+                self.arms.setdefault(plain(o) + ".rest", f"{new}.{new}-own.rest")
             if o and (new != o + "-1" or o.endswith("known")):
                 self.steps.setdefault(plain(o), new)
             if arm:

@@ -23,5 +23,5 @@ pub returns-in_default : goal.returns-in_default
 unfolding data_as value_as
 returns-in_default c =
     let k = c.args.kind in
-    let none = c.in_default-own.rest in
+    let none = c.in_default.in_default-own.rest in
     rw (ne_eqb k utf8_string none.0.1, ne_eqb k unsigned32 (λ e. none.1 (inl e)), ne_eqb k address (λ e. none.1 (inr e)))

@@ -150,4 +150,4 @@ pub returns-in-260 : goal.returns-in-260
 returns-in-260 c = named c.in-260.is
 
 pub returns-in_default : goal.returns-in_default
-returns-in_default c = unknown c.args.val c.in_default-own.rest
+returns-in_default c = unknown c.args.val c.in_default.in_default-own.rest

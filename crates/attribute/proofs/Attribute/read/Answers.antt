@@ -19,4 +19,4 @@ returns-in-235 c = rw (c.in-Rfc.is, c.in-235.is)
 
 pub returns-in_default-val : goal.returns-in_default-val
 returns-in_default-val c =
-    rw (c.in-Rfc.is, other_name c.in_default-val-own.rest.0.1 c.in_default-val-own.rest.1) c.new-in_default-val.ensures
+    rw (c.in-Rfc.is, other_name c.in_default-val.in_default-val-own.rest.0.1 c.in_default-val.in_default-val-own.rest.1) c.new-in_default-val.ensures
