@@ -28,6 +28,9 @@ class Function:
         for o, n in self.needs:
             self.need.setdefault(o, n)
         for o, n in self.needs:
+            # what port.py made of an old name
+            self.need.setdefault("overflow-" + o, n)
+        for o, n in self.needs:
             self.need.setdefault(plain(n), n)
         self.order = [n for _, n in self.needs]
         self.at = {}
@@ -260,18 +263,18 @@ def turn(path, f, own, crate):
         aliases = [var]
         # places that a let names
         while True:
-            m = re.search(rf"let (\w+)(?: : [^=]*?)? = (?:{'|'.join(map(re.escape, aliases))})((?:\.before)*) in\s*", t)
+            m = re.search(rf"let ([\w'-]+)(?: : [^=]*?)? = (?:{'|'.join(map(re.escape, aliases))})((?:\.before)*) in\s*", t)
             if not m:
                 break
             t = t[: m.start()] + t[m.end():]
             t = re.sub(rf"(?<![\w.'-]){re.escape(m[1])}(?![\w'-])", var, t)
         for lem, (_, q) in places.items():
             def at(m):
+                if goal and not hand:
+                    return f"{lem} (goal.at.{goal} {var}).{q}"
                 d = f.distance(place, q)
                 if d is None:
                     return m[0]
-                if goal and not hand:
-                    return f"{lem} (goal.at.{goal} {var}).{q}"
                 return f"{lem} {var}{'.before' * d}"
             t = re.sub(rf"(?<![\w.'-]){re.escape(lem)} {re.escape(var)}((?:\.before)*)(?![\w'.-])", at, t)
         t = re.sub(rf"(?<=[\w)'])\.({NAME})((?:\.given(?:\.\d+)*|\.ensures|\.keys\d+|\.rest))", lambda m: "." + f.arms.get(plain(m[1]) + m[2], m[1] + m[2]), t)
@@ -382,7 +385,7 @@ def turn(path, f, own, crate):
                 whole = flat(whole, var, p)
             ans_out.append("\n".join([*comments, whole]))
     for goal, var, body in inline:
-        ans_out.append(f"pub {goal} : goal.{goal}\n{goal} {var} = {flat(body, var, f.at[goal])}")
+        ans_out.append(f"pub {goal} : goal.{goal}\n{goal} {var} = {flat(body, var, f.at[goal], goal)}")
     # a declaration that has a goal's name now
     for old, new in sorted(rename.items(), key=lambda x: -len(x[0])):
         if old != new and old not in f.need.values():

@@ -18,49 +18,39 @@ use Rattle.unit_value.proofs.compare.Tie as tie
 range_read : (e : ℤ) {t : Bool} → SFits w32 e → t ≡ in_range (to_z w32 (of_z w32 e)) → in_range e ≡ t
 range_read e fits test = sym (rw (to_z-of_z w32 e fits) at test)
 
-a_range : (c : tie.After-in-range) → let s = c.before.before in in_range s.args.a.exponent ≡ c.in_range.result
-a_range c = range_read c.before.before.args.a.exponent (record { sfits = omega arith }) c.in_range.ensures
+a_range : (c : tie.After-in_range) → in_range c.args.a.exponent ≡ c.in_range.result
+a_range c = range_read c.args.a.exponent (record { sfits = omega arith }) c.in_range.ensures
 
-a_taken : (c : tie.Else1) → let s = c.before.before.before in in_range s.args.a.exponent ≡ true
-a_taken c = a_range c.before ∙ not-false _ c.if1.false
+a_taken : (c : tie.Else-not-in_range) → in_range c.args.a.exponent ≡ true
+a_taken c = a_range c.before ∙ c.if-not-in_range.false
 
-b_range : (c : tie.After-in-range2) → let s = c.before.before.before.before.before in in_range s.args.b.exponent ≡ c.in-range2.result
+b_range : (c : tie.After-in_range-2) → in_range c.args.b.exponent ≡ c.in_range-2.result
 b_range c =
-    let s = c.before.before.before.before.before in
-    range_read s.args.b.exponent (record { sfits = omega arith }) c.in-range2.ensures
+    range_read c.args.b.exponent (record { sfits = omega arith }) c.in_range-2.ensures
 
-b_taken : (c : tie.Else2) → let s = c.before.before.before.before.before.before in in_range s.args.b.exponent ≡ true
-b_taken c = b_range c.before ∙ not-false _ c.if2.false
+b_taken : (c : tie.Else-not-in_range-2) → in_range c.args.b.exponent ≡ true
+b_taken c = b_range c.before ∙ c.if-not-in_range-2.false
 
 -- ---- the needs
 
-returns : tie.Need-returns
+returns : tie.Need-returns-then-not-in_range
 unfolding compared answer_of
-returns c = rw (a_range c.before ∙ not-true _ c.if1.true)
+returns c = rw (a_range c.before ∙ c.if-not-in_range.true)
 
-returns_2 : tie.Need-returns-2
+returns_2 : tie.Need-returns-then-not-in_range-2
 unfolding compared answer_of
 returns_2 c =
-    let a_test = c.before.before.before in
-    rw (a_taken a_test, b_range c.before ∙ not-true _ c.if2.true)
+    rw (a_taken c.before.before.before, b_range c.before ∙ c.if-not-in_range-2.true)
 
-order-values-requires : tie.Need-order-values-requires
+order-values-requires : tie.Need-order_values-requires
 order-values-requires c κs = (a_taken c.before.before.before, b_taken c)
 
-returns-3 : tie.Need-returns-3
+returns-3 : tie.Need-returns
 unfolding compared answer_of
 returns-3 c =
     let b-test = c.before in
     let a_test = b-test.before.before.before in
-    rw (a_taken a_test, b_taken b-test) (ap accepted c.order-values.ensures)
+    rw (a_taken a_test, b_taken b-test) (ap accepted c.order_values.ensures)
 
-pub compare-spec : {M : Type 1} → statement M
-compare-spec =
-    tie.close
-    (tie.spec
-    (λ c κs. search rules)
-    returns
-    (λ c κs. search rules)
-    returns_2
-    order-values-requires
-    returns-3)
+pub compare_spec : {M : Type 1} → statement M
+compare_spec = tie.close (tie.spec (λ c κs. search rules) returns (λ c κs. search rules) returns_2 order-values-requires returns-3)

@@ -8,13 +8,19 @@ use Rattle.signed.proofs.Casts as casts
 use Rattle.signed.proofs.Casts.{CastTo}
 use Rattle.unit_value.specs.UnitValues.{tens}
 use Rattle.unit_value.proofs.Exponents.{tens_is, tens_few}
-use Rattle.unit_value.proofs.tens.Statement.{statement}
-use Rattle.unit_value.proofs.tens.Tie as tie
+use Rattle.unit_value.proofs.tens.Goals as goal
+use Rattle.unit_value.proofs.tens.Goals.{Start}
 
-cast : (c : tie.Start) → let e = c.args.exponent in CastTo w32 (tens e) (to_z w32 (of_z w32 e) -ℤ negsuc 17)
+cast : (c : Start) → let e = c.args.exponent in CastTo w32 (tens e) (to_z w32 (of_z w32 e) -ℤ negsuc 17)
 cast c =
     let e = c.args.exponent in
     rw (to_z-of_z w32 e c.ranges.exponent, tens_is e c.requires) (casts.cast w32 (tens e) (omega (arith, tens_few e c.requires)))
 
-pub tens-spec : {M : Type 1} → statement M
-tens-spec = tie.close (tie.spec (λ c. (cast c).ranges) (λ c. (cast c).casts) (λ c. (cast c).is))
+pub overflow_sub-result : goal.overflow_sub-result
+overflow_sub-result c = (cast c).fits
+
+pub overflow_cast-result : goal.overflow_cast-result
+overflow_cast-result c = (cast c).casts
+
+pub returns : goal.returns
+returns c = (cast c).is
