@@ -17,55 +17,41 @@ use Rattle.count.proofs.count_run.Tie as tie
 abbrev run : tie.Start → Tree
 run b = tree (avps (dictionary_by b.args.d b.args.kinds.now)) b.args.s.now
 
-abbrev entry : tie.After-count-level → tie.Start
+abbrev entry : tie.After-count_level → tie.Start
 entry c = c.before.before.before.before.before
 
 -- the limit is allowed
-within_limit : (c : tie.After-count-level) → allowed (entry c).args.limit ≡ true
-within_limit c = let e = c.before in sym e.before.allowed.ensures ∙ not-false _ e.if1.false
+within_limit : (c : tie.After-count_level) → allowed (entry c).args.limit ≡ true
+within_limit c = sym c.allowed.ensures ∙ not-false _ c.if-not-allowed.false
 
 -- does the run tile?
-asked : (c : tie.After-tiles2) → tiles (run (entry c.before.before.before)) ≡ c.tiles2.result
-asked c = tiles_any _ _ ∙ sym c.tiles2.ensures
+asked : (c : tie.After-tiles) → tiles (run (entry c.before.before)) ≡ c.tiles.result
+asked c = tiles_any _ _ ∙ sym c.tiles.ensures
 
 -- its counts
-known : (c : tie.After-known-told)
-    → let b = entry c.before.before.before in
-    Known b.args.limit (run b) c.before.tiles.given.0.0 c.before.tiles.given.0.1.0 c.before.tiles.given.0.1.1.0
-known c = was_counts _ _ _ _ _ (sym c.before.tiles.given.1 ∙ c.before.before.before.count_level.ensures)
+known : (c : tie.In-Within)
+    → let b = entry c.before in
+    Known b.args.limit (run b) c.in-Within.tiles c.in-Within.records c.in-Within.tried
+known c = was_counts _ _ _ _ _ (sym c.in-Within.is ∙ c.count_level.ensures)
 
-returns : tie.Need-returns
-returns c = not_allowed _ _ (sym c.before.allowed.ensures ∙ not-true _ c.if1.true)
+returns : tie.Need-returns-then-not-allowed
+returns c = not_allowed _ _ (sym c.allowed.ensures ∙ not-true _ c.if-not-allowed.true)
 
-returns_2 : tie.Need-returns-2
-returns_2 c = not_tiled _ _ (within_limit c.before.before.before.before) (asked c.before ∙ not-true _ c.if2.true)
+returns_2 : tie.Need-returns-then-not-tiles
+returns_2 c = not_tiled _ _ (within_limit c.before.before.before) (asked c.before ∙ not-true _ c.if-not-tiles.true)
 
-returns-3 : tie.Need-returns-3
+returns-3 : tie.Need-returns-in_default
 returns-3 c =
-    let told = c.before.before in
-    let counted = told.before.before in
-    too_deep _ _ (within_limit counted) (asked c.before ∙ not-false _ c.if2.false)
-    (was_deep _ _ (sym told.enum_told.given.1 ∙ counted.count_level.ensures))
+    too_deep _ _ (within_limit c.before.before.before) (asked c.before ∙ not-false _ c.if-not-tiles.false)
+    (was_deep _ _ (sym c.in_default.is ∙ c.count_level.ensures))
 
-returns-4 : tie.Need-returns-4
-returns-4 c = not_tiled _ _ (within_limit c.before.before.before.before) (sym (known c.before).tiles_is ∙ not-true _ c.if3.true)
+returns-4 : tie.Need-returns-then-not-tiles-2
+returns-4 c = not_tiled _ _ (within_limit c.before.before) (sym (known c.before).tiles_is ∙ not-true _ c.if-not-tiles-2.true)
 
-returns-5 : tie.Need-returns-5
+returns-5 : tie.Need-returns
 returns-5 c =
     let k = known c.before in
-    fits _ _ (within_limit c.before.before.before.before) (rw (not-false c.before.before.tiles.given.0.0 c.if3.false) at k)
+    fits _ _ (within_limit c.before.before) (rw (not-false c.in-Within.tiles c.if-not-tiles-2.false) at k)
 
-pub count-run-spec : {M : Type 1} → statement M
-count-run-spec =
-    tie.close
-    (tie.spec
-    (λ c κs. tt)
-    returns
-    (λ c κs. tt)
-    (λ c. search rules)
-    (λ c. search rules)
-    (λ c κs. tt)
-    returns_2
-    returns-3
-    returns-4
-    returns-5)
+pub count_run_spec : {M : Type 1} → statement M
+count_run_spec = tie.close (tie.spec (λ c κs. search rules) returns (λ c κs. search rules) (λ c. search rules) (λ c. search rules) (λ c κs. search rules) returns_2 returns-3 returns-4 returns-5)
