@@ -22,7 +22,7 @@ entry c = c.before.before.before.before.before
 
 -- the limit is allowed
 within_limit : (c : tie.After-count_level) → allowed (entry c).args.limit ≡ true
-within_limit c = sym c.allowed.ensures ∙ not-false _ c.if-not-allowed.false
+within_limit c = sym c.allowed.ensures ∙ c.if-not-allowed.false
 
 -- does the run tile?
 asked : (c : tie.After-tiles) → tiles (run (entry c.before.before)) ≡ c.tiles.result
@@ -35,23 +35,23 @@ known : (c : tie.In-Within)
 known c = was_counts _ _ _ _ _ (sym c.in-Within.is ∙ c.count_level.ensures)
 
 returns : tie.Need-returns-then-not-allowed
-returns c = not_allowed _ _ (sym c.allowed.ensures ∙ not-true _ c.if-not-allowed.true)
+returns c = not_allowed _ _ (sym c.allowed.ensures ∙ c.if-not-allowed.true)
 
 returns_2 : tie.Need-returns-then-not-tiles
-returns_2 c = not_tiled _ _ (within_limit c.before.before.before) (asked c.before ∙ not-true _ c.if-not-tiles.true)
+returns_2 c = not_tiled _ _ (within_limit c.before.before.before) (asked c.before ∙ c.if-not-tiles.true)
 
 returns-3 : tie.Need-returns-in_default
 returns-3 c =
-    too_deep _ _ (within_limit c.before.before.before) (asked c.before ∙ not-false _ c.if-not-tiles.false)
+    too_deep _ _ (within_limit c.before.before.before) (asked c.before ∙ c.if-not-tiles.false)
     (was_deep _ _ (sym c.in_default.is ∙ c.count_level.ensures))
 
 returns-4 : tie.Need-returns-then-not-tiles-2
-returns-4 c = not_tiled _ _ (within_limit c.before.before) (sym (known c.before).tiles_is ∙ not-true _ c.if-not-tiles-2.true)
+returns-4 c = not_tiled _ _ (within_limit c.before.before) (sym (known c.before).tiles_is ∙ c.if-not-tiles-2.true)
 
 returns-5 : tie.Need-returns
 returns-5 c =
     let k = known c.before in
-    fits _ _ (within_limit c.before.before) (rw (not-false c.in-Within.tiles c.if-not-tiles-2.false) at k)
+    fits _ _ (within_limit c.before.before) (rw (c.if-not-tiles-2.false) at k)
 
 pub count_run_spec : {M : Type 1} → statement M
 count_run_spec = tie.close (tie.spec (λ c κs. search rules) returns (λ c κs. search rules) (λ c. search rules) (λ c. search rules) (λ c κs. search rules) returns_2 returns-3 returns-4 returns-5)
