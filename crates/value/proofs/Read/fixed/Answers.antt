@@ -1,6 +1,6 @@
 -- `fixed` meets its contract: each arm reads a number of the width that its kind has, and what no arm names is no number.
 use Prim.Native.Nat.{ℕ}
-use mathlib.Core.Path.{◌≡◌, refl, sym, ◌∙◌}
+use mathlib.Core.Path.{◌≡◌, sym, ◌∙◌}
 use mathlib.Core.Bool.{cond}
 use mathlib.Core.List.{List, ◌++◌}
 use Rattle.record.specs.Kinds.{unhandled}
@@ -21,50 +21,34 @@ no_number k s none =
 pub returns-in_default : goal.returns-in_default
 returns-in_default c = read_as_lem _ (Unhandled 0) 0 c.unhandled.ensures ∙ sym (no_number _ _ c.in_default.in_default-own.rest)
 
-pub fixed_32-requires : goal.fixed_32-requires
-fixed_32-requires c = refl
-
-pub fixed_32-requires-in-4 : goal.fixed_32-requires-in-4
-fixed_32-requires-in-4 c = refl
-
-pub fixed_32-requires-in-6 : goal.fixed_32-requires-in-6
-fixed_32-requires-in-6 c = refl
-
-pub fixed_32-requires-in-9 : goal.fixed_32-requires-in-9
-fixed_32-requires-in-9 c = refl
-
-pub fixed_32-requires-in-14 : goal.fixed_32-requires-in-14
-fixed_32-requires-in-14 c = refl
-
-pub fixed_64-requires : goal.fixed_64-requires
-fixed_64-requires c = refl
-
-pub fixed_64-requires-in-5 : goal.fixed_64-requires-in-5
-fixed_64-requires-in-5 c = refl
-
-pub fixed_64-requires-in-7 : goal.fixed_64-requires-in-7
-fixed_64-requires-in-7 c = refl
-
 pub returns-in-2 : goal.returns-in-2
+unfolding fixed_as
 returns-in-2 c = rw c.in-2.is c.fixed_32.ensures
 
 pub returns-in-4 : goal.returns-in-4
+unfolding fixed_as
 returns-in-4 c = rw c.in-4.is c.fixed_32-in-4.ensures
 
 pub returns-in-6 : goal.returns-in-6
+unfolding fixed_as
 returns-in-6 c = rw c.in-6.is c.fixed_32-in-6.ensures
 
 pub returns-in-9 : goal.returns-in-9
+unfolding fixed_as
 returns-in-9 c = rw c.in-9.is c.fixed_32-in-9.ensures
 
 pub returns-in-14 : goal.returns-in-14
+unfolding fixed_as
 returns-in-14 c = rw c.in-14.is c.fixed_32-in-14.ensures
 
 pub returns-in-3 : goal.returns-in-3
+unfolding fixed_as
 returns-in-3 c = rw c.in-3.is c.fixed_64.ensures
 
 pub returns-in-5 : goal.returns-in-5
+unfolding fixed_as
 returns-in-5 c = rw c.in-5.is c.fixed_64-in-5.ensures
 
 pub returns-in-7 : goal.returns-in-7
+unfolding fixed_as
 returns-in-7 c = rw c.in-7.is c.fixed_64-in-7.ensures

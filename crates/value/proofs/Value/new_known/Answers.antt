@@ -2,7 +2,6 @@
 -- names is Unhandled.
 use mathlib.Core.Path.{◌≡◌, refl}
 use mathlib.Core.Bool.{◌||◌}
-use mathlib.Core.Logic.{⊎_elim}
 use Rattle.rfc6733.specs.Value.{data_as}
 use Rattle.rfc6733.specs.Records.{tiling}
 use Rattle.attribute.specs.ByTable.{address_by}
@@ -12,15 +11,16 @@ use Rattle.value.specs.Values.{value_if}
 use Rattle.value.proofs.KnownKinds.{left_over}
 use Rattle.value.proofs.Shown.{read_as_lem, no_address, a_group, a_text, an_address, a_number}
 use Rattle.value.proofs.Value.new_known.Goals as goal
-use Rattle.value.proofs.Value.new_known.Goals.{Joined-families, Joined-tiles}
+use Rattle.value.proofs.Value.new_known.Goals.{Joined-families, Joined-tiles, then-tiles, else-tiles, then-families, else-families}
 
 pub returns-in-1 : goal.returns-in-1
 unfolding value_if data_as
-returns-in-1 c = rw c.in-1.is (no_address _ _ _ (read_as_lem _ OctetString 0 c.good2.ensures) refl)
+returns-in-1 c = rw c.in-1.is (no_address _ _ _ (read_as_lem _ OctetString 0 c.good.ensures) refl)
 
 -- a group tiles where that is known, and else where it is asked
 known_or_asked : (c : Joined-tiles) → let a = c.args in a.tiles || tiling a.«data».now ≡ c.if-tiles.group
-known_or_asked c = ⊎_elim (λ w. rw (w.1, w.0.taken)) (λ w. rw (w.2, w.1.ensures, w.0.left)) c.if-tiles.branch
+known_or_asked c =
+    elim c.if-tiles.branch [ then-tiles w ↦ rw (w.group-is, w.if-tiles.true) | else-tiles w ↦ rw (w.group-is, w.tiles.ensures, w.if-tiles.false) ]
 
 pub returns-after-tiles : goal.returns-after-tiles
 unfolding value_if
@@ -42,7 +42,11 @@ returns-in-12 c = rw c.in-12.is (a_text _ _ DiameterURI refl refl _ c.check-in-1
 found_by : (c : Joined-families) → let a = c.args in
     Finds (address_by a.families a.«data».now) a.«data».now c.if-families.address
 unfolding address_by
-found_by c = ⊎_elim (λ w. rw (w.2, w.0.taken) w.1.ensures) (λ w. rw (w.2, w.0.left) w.1.ensures) c.if-families.branch
+found_by c =
+    elim c.if-families.branch [
+      | then-families w ↦ rw (w.address-is, w.if-families.true) w.after_family.ensures
+      | else-families w ↦ rw (w.address-is, w.if-families.false) w.bare.ensures
+    ]
 
 pub returns-after-families : goal.returns-after-families
 unfolding value_if data_as

@@ -1,7 +1,6 @@
 -- `of_32` meets its contract: each arm makes the value of its own kind, and a kind of 32 bits that no arm names is Time.
 use mathlib.Core.Path.{refl}
 use mathlib.Core.List.{[], ◌∷◌}
-use borrow.Author.Rules.{rules}
 use Rattle.record.specs.Kinds.{integer32, unsigned32, float32, enumerated, time}
 use Rattle.value.proofs.KnownKinds.{last_one}
 use Rattle.value.proofs.Value.of_32.Goals as goal

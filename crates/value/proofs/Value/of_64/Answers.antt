@@ -1,7 +1,6 @@
 -- `of_64` meets its contract: each arm makes the value of its own kind, and a kind of 64 bits that no arm names is Float64.
 use mathlib.Core.Path.{refl}
 use mathlib.Core.List.{[], ◌∷◌}
-use borrow.Author.Rules.{rules}
 use Rattle.record.specs.Kinds.{integer64, unsigned64, float64}
 use Rattle.value.proofs.KnownKinds.{last_one}
 use Rattle.value.proofs.Value.of_64.Goals as goal
