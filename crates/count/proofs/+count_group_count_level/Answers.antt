@@ -25,6 +25,7 @@ use Rattle.front.proofs.Fronts.{Turn, turn_at, was_whole, was_broken, here}
 use Rattle.count.proofs.Levels.{was_deep, was_counts, within, Known, Passed, none_passed, leaf_passed, group_passed, then_deep, group_deep, then_ends, leaf_first, group_first, some_recorded}
 use Rattle.count.proofs.Lent.{Inside, inside, left_after}
 use Rattle.count.proofs.+count_group_count_level.Goals as goal
+use Rattle.count.proofs.+count_group_count_level.Goals.{count_level-then-kind-eq-GROUPED+in-Within, count_level-then-tiles, count_level-else-tiles, count_level-else-kind-eq-GROUPED}
 
 -- ---- an AVP is at the front of what is left
 
@@ -43,7 +44,7 @@ module _ (D : Dictionary) (s : List ℕ) (a : AVP) (f : Turn s 0 a) (k : ℕ) (t
   module _ {left n j : ℕ} {t : Tree} (p : Passed left t (tree (avps D) s) n j) (room : 0 < left) where
     -- it is passed: a leaf alone
     past_leaf : (k ≡ grouped → ⊥) → Passed left t (tree (avps D) (after (avps D) s)) (n + 1) (j + 1)
-    past_leaf no = leaf_passed p (leaf_first D s f.complete_here (λ e. no (kind_is ∙ e))) room
+    past_leaf other = leaf_passed p (leaf_first D s f.complete_here (λ e. other (kind_is ∙ e))) room
 
     -- and a group with its members, whose records are counted where it tiles
     past_group : {b : Bool} {m i : ℕ} → k ≡ grouped → Within b m i ≡ level_of (left - 1) (tree (avps D) (payload s))
@@ -80,7 +81,10 @@ count_level-returns-then-left-eq0 t c =
     then_deep c.loop-rest.invariant (omega arith)
 
 pub count_level-overflow_add-tried : goal.count_level-overflow_add-tried
-count_level-overflow_add-tried t c = ?
+count_level-overflow_add-tried t c =
+    let D = dictionary_by c.args.d c.args.kinds.now in
+    let r = some_tried D c.loop-rest.rest.now (omega arith) in
+    omega (arith, fits D c.args.s.now c.loop-rest.invariant (omega arith))
 
 pub count_level-returns-in_default : goal.count_level-returns-in_default
 count_level-returns-in_default t c =
@@ -90,7 +94,11 @@ count_level-returns-in_default t c =
     then_ends c.loop-rest.invariant broken none (omega arith) (omega arith) (omega arith)
 
 pub count_level-overflow_add-records : goal.count_level-overflow_add-records
-count_level-overflow_add-records t c = ?
+count_level-overflow_add-records t c =
+    let D = dictionary_by c.args.d c.args.kinds.now in
+    let f = found c.loop-rest.rest.now c.in-Whole.a (sym c.in-Whole.is ∙ c.first_avp.ensures) in
+    let r = some_recorded D c.loop-rest.rest.now f.complete_here in
+    omega (arith, fits D c.args.s.now c.loop-rest.invariant (omega arith))
 
 pub count_level-count_group-requires : goal.count_level-count_group-requires
 count_level-count_group-requires t c =
@@ -105,10 +113,19 @@ count_level-returns-in_default-count_group t c =
     (was_deep _ _ (sym c.in_default-count_group.is ∙ c.count_group.ensures))
 
 pub count_level-overflow_add-records-then-tiles : goal.count_level-overflow_add-records-then-tiles
-count_level-overflow_add-records-then-tiles t c = ?
+count_level-overflow_add-records-then-tiles t c =
+    let D = dictionary_by c.args.d c.args.kinds.now in
+    let f = found c.loop-rest.rest.now c.in-Whole.a (sym c.in-Whole.is ∙ c.first_avp.ensures) in
+    let p = past_group D _ _ f _ c.kind.ensures c.loop-rest.invariant (omega arith) c.if-kind-eq-GROUPED.true (sym c.in-Within.is ∙ c.count_group.ensures) in
+    let all : cond c.in-Within.tiles c.in-Within.r 0 ≡ c.in-Within.r = rw c.if-tiles.true in
+    omega (arith, fits D c.args.s.now p (omega arith))
 
 pub count_level-overflow_add-tried-then-kind-eq-GROUPED : goal.count_level-overflow_add-tried-then-kind-eq-GROUPED
-count_level-overflow_add-tried-then-kind-eq-GROUPED t c = ?
+count_level-overflow_add-tried-then-kind-eq-GROUPED t c =
+    let D = dictionary_by c.args.d c.args.kinds.now in
+    let f = found c.loop-rest.rest.now c.in-Whole.a (sym c.in-Whole.is ∙ c.first_avp.ensures) in
+    let p = past_group D _ _ f _ c.kind.ensures c.loop-rest.invariant (omega arith) c.if-kind-eq-GROUPED.true (sym c.in-Within.is ∙ c.count_group.ensures) in
+    omega (arith, fits D c.args.s.now p (omega arith))
 
 pub count_level-slice_bounds-rest-count : goal.count_level-slice_bounds-rest-count
 count_level-slice_bounds-rest-count t c =
@@ -124,7 +141,23 @@ count_level-loop-rest-smaller t c =
     (left_after D (found c.loop-rest.rest.now c.in-Whole.a (sym c.in-Whole.is ∙ c.first_avp.ensures))).shorter
 
 pub count_level-loop-rest-preserved : goal.count_level-loop-rest-preserved
-count_level-loop-rest-preserved t c = ?
+count_level-loop-rest-preserved t c =
+    let D = dictionary_by c.args.d c.args.kinds.now in
+    let f = found c.loop-rest.rest.now c.in-Whole.a (sym c.in-Whole.is ∙ c.first_avp.ensures) in
+    rw (left_after D f).is
+    (elim c.if-kind-eq-GROUPED.branch [
+      | count_level-then-kind-eq-GROUPED+in-Within w ↦
+          let n : w.if-tiles.records ≡ c.loop-rest.records + 1 + cond w.in-Within.tiles w.in-Within.r 0 =
+          elim w.if-tiles.branch [
+            | count_level-then-tiles v ↦ v.records-is ∙ rw v.if-tiles.true
+            | count_level-else-tiles v ↦ v.records-is ∙ rw v.if-tiles.false (omega arith)
+          ]
+          in
+          rw (w.records-is, w.tried-is, n)
+          (past_group D _ _ f _ c.kind.ensures c.loop-rest.invariant (omega arith) w.if-kind-eq-GROUPED.true (sym w.in-Within.is ∙ w.count_group.ensures))
+      | count_level-else-kind-eq-GROUPED w ↦
+          rw (w.records-is, w.tried-is) (past_leaf D _ _ f _ c.kind.ensures c.loop-rest.invariant (omega arith) w.if-kind-eq-GROUPED.false)
+    ])
 
 pub count_level-returns : goal.count_level-returns
 count_level-returns t c =
