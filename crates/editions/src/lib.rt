@@ -50,12 +50,13 @@ impl Edition {
         ensures { result ≡ kind_table self }
     {
         let mut kinds = [UNHANDLED; CODES];
-        bytes::copy(&attribute::kind_table(Reading::Rfc), &mut kinds);
-        bytes::copy(&KINDS, &mut kinds[FIRST..]);
+        let base = attribute::kind_table(Reading::Rfc);
+        kinds[..base.len()].copy_from_slice(&base);
+        kinds[FIRST..FIRST + KINDS.len()].copy_from_slice(&KINDS);
         let Edition::Rfc8506 = self else {
             return kinds;
         };
-        bytes::copy(&ADDED, &mut kinds[ADDED_FIRST..]);
+        kinds[ADDED_FIRST..].copy_from_slice(&ADDED);
         kinds
     }
 }

@@ -1,0 +1,41 @@
+-- `kind_table` meets its contract: the RFC reading's table with the blocks over it is computed, entry by entry, and is the edition's.
+use mathlib.Core.Path.{◌≡◌, refl, sym, ap, ap₂, ◌∙◌}
+use mathlib.Core.List.{List, ◌++◌}
+use Prim.Native.Nat.{ℕ, ◌+◌}
+use native.Mathlib.Omega.{arith}
+use lib.ListN.{length, take, drop, replicate}
+use borrow.Rule.Slice.PartMut.{mid_of, put_mid}
+use Rattle.rfc6733.specs.Dictionary.{rfc}
+use Rattle.record.specs.Rows.{Row, kind_in, table}
+use Rattle.rfc6733.specs.CreditControl.{avps4006, avps8506, rfc4006, rfc8506}
+use Rattle.attribute.specs.Attributes as base
+use Rattle.attribute.specs.declared.Reading.TheVariants.{Rfc}
+use Rattle.editions.specs.declared.Edition.TheVariants.{Rfc4006}
+use Rattle.editions.specs.Editions.{dictionary, kind_table}
+use Rattle.editions.proofs.Edition.kind_table.Goals as goal
+
+-- the kinds of n codes of a table, from the first on
+abbrev block : List Row → ℕ → ℕ → List ℕ
+block rs first n = table (λ c. kind_in rs (first + c)) n
+
+-- the RFC reading's kinds, Unhandled past them, and the first block over them, are the kinds of the older edition
+older : {kinds first : List ℕ} → kinds ≡ base.kind_table Rfc → first ≡ block avps4006 411 51
+    → put_mid 411 51 (kinds ++ drop 512 (replicate 670 0)) first ≡ kind_table Rfc4006
+unfolding base.kind_table base.dictionary rfc kind_table dictionary rfc4006
+older a c = rw (a, c) refl
+
+pub returns-in_default : goal.returns-in_default
+returns-in_default c =
+    older (c.copy_from_slice.ensures.after ∙ c.kind_table-base.ensures) c.copy_from_slice-2.ensures.after ∙ ap kind_table (sym c.in_default.is)
+
+pub slice_bounds-kinds-end-3 : goal.slice_bounds-kinds-end-3
+unfolding kind_table
+slice_bounds-kinds-end-3 c =
+    let l = ap length (older (c.copy_from_slice.ensures.after ∙ c.kind_table-base.ensures) c.copy_from_slice-2.ensures.after) in omega (arith, l)
+
+pub returns : goal.returns
+unfolding kind_table dictionary rfc4006 rfc8506
+returns c =
+    ap₂ (put_mid 653 17) (older (c.copy_from_slice.ensures.after ∙ c.kind_table-base.ensures) c.copy_from_slice-2.ensures.after)
+    c.copy_from_slice-3.ensures.after
+    ∙ ap kind_table (sym c.in-Rfc8506.is)
