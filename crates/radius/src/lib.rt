@@ -111,7 +111,7 @@ fn authenticator(input: &[u8]) -> [u8; Packet::AUTHENTICATOR]
     ensures { result ≡ (header_of input.now).authenticator }
 {
     let mut bytes = [0; Packet::AUTHENTICATOR];
-    bytes::copy(&input[Packet::FRONT..Packet::HEADER], &mut bytes);
+    bytes.copy_from_slice(&input[Packet::FRONT..Packet::HEADER]);
     bytes
 }
 

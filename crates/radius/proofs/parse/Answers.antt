@@ -4,7 +4,6 @@ use Prim.Native.Nat.{ℕ, ◌≤◌}
 use mathlib.Core.Path.{◌≡◌, sym, ap, ◌∙◌}
 use mathlib.Core.List.{List}
 use lib.ListN.{length, replicate}
-use borrow.Author.Rules.{rules}
 use Rattle.refusal.specs.Answer.{Refusal, refused}
 use Rattle.record.specs.Store.{room, stored}
 use Rattle.rfc2865.specs.Packet.{header_of, packet_records, decoded}
@@ -13,8 +12,8 @@ use Rattle.radius.specs.declared.Decoded.{Decoded}
 use Rattle.radius.specs.declared.Decoded.TheVariants.{Accepted, Refused}
 use Rattle.radius.specs.Answers.{packet_as, answer_with, authenticator_of}
 use Rattle.radius.proofs.Packets.{accepted_there}
-use Rattle.radius.proofs.parse.Statement.{statement}
-use Rattle.radius.proofs.parse.Tie as tie
+use Rattle.radius.proofs.parse.Goals as goal
+use Rattle.radius.proofs.parse.Goals.{After-parse_packet}
 
 -- what `parse_packet` answered of s, with room for n records, and how it left the store
 record Told (n : ℕ) (s before after : List ℕ) (x : Decoded) : Type 0 where
@@ -45,33 +44,21 @@ module _ {n : ℕ} {s before after : List ℕ} {x : Decoded} (t : Told n s befor
       let e : refused why ≡ decoded n s = ap (answer_with (header_of s).authenticator) (sym is) ∙ t.answered in
       (e, (ap authenticator_of e, rw is at t.left))
 
-told : (c : tie.After-parse-packet)
-    → let b = c.before.before.before.before in
-    Told (room b.args.store.now) b.args.input.now b.args.store.now c.parse_packet.new.1.0 c.parse_packet.result
-told c = let e = c.parse_packet.ensures in record { answered = e.0; left = e.1 }
+told : (c : After-parse_packet)
+    → Told (room c.args.store.now) c.args.input.now c.args.store.now c.parse_packet.new.store c.parse_packet.result
+told c = record { answered = c.parse_packet.ensures.answer; left = c.parse_packet.ensures.store }
 
 -- ---- the needs
 
-authenticator-requires : tie.Need-authenticator-requires
-authenticator-requires c κs = let k = c.before in header_there (told k.before.before.before.before) _ k.packet.given.1
+pub authenticator-requires : goal.authenticator-requires
+authenticator-requires c = header_there (told (goal.at.authenticator-requires c).After-parse_packet) _ c.in-Accepted.is
 
-returns : tie.Need-returns
-returns c =
-    let k = c.before.before in
-    accepts (told k.before.before.before.before) _ _ k.packet.given.1 c.authenticator.ensures
+pub returns-in-Accepted : goal.returns-in-Accepted
+returns-in-Accepted c =
+    let met = accepts (told (goal.at.returns-in-Accepted c).After-parse_packet) _ _ c.in-Accepted.is c.authenticator.ensures in
+    record { answer = met.0; authenticator = met.1.0; store = met.1.1 }
 
-returns_2 : tie.Need-returns-2
-returns_2 c = let k = c.before in refuses (told k.before.before.before.before) _ k.why.given.1
-
-pub parse-spec : {M : Type 1} → statement M
-parse-spec =
-    tie.close
-    (tie.spec
-    (λ c κs. search rules)
-    (λ c. search rules)
-    authenticator-requires
-    (λ c. search rules)
-    (λ c. search rules)
-    returns
-    (λ c. search rules)
-    returns_2)
+pub returns-in-Refused : goal.returns-in-Refused
+returns-in-Refused c =
+    let met = refuses (told (goal.at.returns-in-Refused c).After-parse_packet) _ c.in-Refused.is in
+    record { answer = met.0; authenticator = met.1.0; store = met.1.1 }
