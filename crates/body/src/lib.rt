@@ -16,7 +16,7 @@ pub fn copy(src: &[u8], dst: &mut [u8])
         word::put_u32(&mut dst[0..4], word::be_u32(src));
         return;
     }
-    bytes::copy(src, dst);
+    dst[..src.len()].copy_from_slice(src);
 }
 
 /// Puts the three bytes of `pads`, as many of them as there is room for.

@@ -164,7 +164,9 @@ module _ {n depth : ℕ} {earlier : List ℕ} {start : ℕ} {rs : List Record} {
           → P (r.depth ∷ w.passed)
       after_group_itself P h =
           let parent : parent_at (r.depth ∷ w.passed) (depth + 1) ≡ index =
-          rw (← k.level) (own_parent r.depth w.passed good.some) ∙ w.counted
+          subst (λ (d : ℕ). parent_at (r.depth ∷ w.passed) (d + 1) ≡ length w.passed) k.level
+          (own_parent r.depth w.passed good.some)
+          ∙ w.counted
           in
           h (r.depth ∷ w.passed) (omega (arith, w.counted)) parent
 
