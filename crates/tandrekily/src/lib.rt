@@ -1,4 +1,4 @@
-// The library for C and Rust: each public way to decode and to write, over numbers and byte slices, by the C calling convention.
+// The library for C and Rust: each public way to decode and to write, over numbers and byte slices. `tandrekily_c` hands it to C.
 // This crate knows what each function is asked; how the answer is laid out as numbers is that of results.
 #![tactic(auto)]
 
