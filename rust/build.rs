@@ -4,7 +4,7 @@ use std::env;
 use std::path::{Path, PathBuf};
 use std::process::exit;
 
-/// Where `rt staticlib tandrekily` leaves the archive, as seen from this crate.
+/// Where `library`, at the top of the repository, leaves the archive, as seen from this crate.
 const BUILT: &str = "../target/staticlib";
 
 const ARCHIVE: &str = "libtandrekily.a";
@@ -18,7 +18,7 @@ fn absolute(folder: &Path) -> PathBuf {
     folder.join(ARCHIVE).canonicalize().unwrap_or_else(|error| {
         eprintln!("{} in {}: {error}", ARCHIVE, folder.display());
         eprintln!(
-            "Run `rt staticlib tandrekily` first, or name the archive's folder in TANDREKILY_LIB."
+            "Run `../library` first, or name the archive's folder in TANDREKILY_LIB."
         );
         exit(1)
     })

@@ -25,7 +25,7 @@ library() {
     [ ! -e "$archive" ] || [ -n "$(find "$top/crates" -name '*.rt' -newer "$archive")" ] || return 0
     need rt "the Rattle toolchain"
     echo "$(basename "$0"): the library is proved and built first, which takes some minutes" >&2
-    said=$(cd "$top" && rt staticlib tandrekily 2>&1) || { printf '%s\n' "$said" >&2; exit 1; }
+    said=$("$top/library" 2>&1) || { printf '%s\n' "$said" >&2; exit 1; }
 }
 
 # compile NAME FILE-OR-OPTION...

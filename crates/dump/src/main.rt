@@ -1,26 +1,36 @@
 // Dumps the message on standard input (docs/FORMAT.md, 9): the text is that of `lines`.
 #![tactic(auto)]
 
-const OUT: i32 = 1;
+ghost use Rattle.std.specs.Prelude.{◌≤◌, length, IfOk};
 
-const ERR: i32 = 2;
+use std::io;
+use std::io::Read;
 
-// Can nothing be read, though the input hasn't ended?
-fn unreadable() -> bool {
-    let mut one = [0u8; 1];
-    libc::read(0, &mut one) < 0
+// Fills the buffer from its front as far as the input goes, and answers how many bytes that are.
+fn read_front(from: &mut impl Read, buf: &mut [u8]) -> io::Result<usize>
+    ensures { IfOk result (λ n. n ≤ length buf.new) }
+{
+    let mut size = 0;
+    while size < buf.len() {
+        let more = from.read(&mut buf[size..])?;
+        if more == 0 {
+            break;
+        }
+        size += more;
+    }
+    Ok(size)
 }
 
-fn main() {
+fn main(rt: HostRuntime) -> io::Result<()> {
     let mut input = [0u8; lines::INPUT];
-    let size = io::read_full(0, &mut input);
-    if size == 0 {
-        if unreadable() {
-            io::write_all(ERR, b"dump: standard input can't be read\n");
-            return;
+    let size = match read_front(&mut rt.stdin(), &mut input) {
+        Ok(size) => size,
+        Err(error) => {
+            eprintln!(rt; "dump: standard input can't be read")?;
+            return Err(error);
         }
-    }
+    };
     let mut text = [0u8; lines::SIZE];
     let length = lines::dump(&input[..size], &mut text);
-    io::write_all(OUT, &text[..length]);
+    rt.write_all(&text[..length])
 }

@@ -36,7 +36,7 @@ fn put_number(n: u64, after: u8, out: &mut [u8]) -> usize
 {
     let mut digits = [0u8; MOST_DIGITS];
     let size = io::decimal(n, &mut digits);
-    bytes::copy(&digits[..size], out);
+    out[..size].copy_from_slice(&digits[..size]);
     out[size] = after;
     size + 1
 }
@@ -106,7 +106,9 @@ fn put_refusal(why: Refusal, out: &mut [u8]) -> usize
     ensures { Put result (refusal_text why) out.old out.new }
 {
     let numbers = [why.number() as u64, why.amount() as u64];
-    let at = bytes::copy(b"refused ", out);
+    let word = b"refused ";
+    let at = word.len();
+    out[..at].copy_from_slice(word);
     at + put_line(&numbers, &mut out[at..])
 }
 

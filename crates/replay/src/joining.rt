@@ -6,6 +6,7 @@ use diameter::{Decoded, Message};
 use header::Header;
 use record::Record;
 use rules::shifting::Shifted;
+use std::io;
 use std::num::wrapping_add_usize;
 
 // The bytes and the records that a table is moved by stand in the input before it.
@@ -19,86 +20,106 @@ fn wide_of(b: &[u8]) -> usize
     octets::be_u64(b[0], b[1], b[2], b[3], b[4], b[5], b[6], b[7]) as usize
 }
 
-fn write_shifted(s: Shifted) {
+fn write_shifted(rt: &impl Print, s: Shifted) -> io::Result<()> {
     match s {
         Shifted::Accepted(records) => {
-            crate::write_refusal(0, 0);
-            crate::write_count(records);
+            crate::write_refusal(rt, 0, 0)?;
+            crate::write_count(rt, records)
         }
-        Shifted::Refused(why) => crate::write_refusal(why.number(), why.amount()),
+        Shifted::Refused(why) => crate::write_refusal(rt, why.number(), why.amount()),
     }
 }
 
 // The table is moved where the store shows it.
-fn move_copy(table: &[u8], bytes: usize, records: usize, copy: &mut [u8])
+fn move_copy(
+    rt: &impl Print,
+    table: &[u8],
+    bytes: usize,
+    records: usize,
+    copy: &mut [u8],
+) -> io::Result<()>
     requires { length table.now ≤ length copy.old }
 {
-    bytes::copy(table, copy);
-    write_shifted(rules::shifting::shift(copy, bytes, records));
+    copy[..table.len()].copy_from_slice(table);
+    write_shifted(rt, rules::shifting::shift(copy, bytes, records))
 }
 
-pub(super) fn moved(input: &[u8], store: &mut [u8]) {
+pub(super) fn moved(rt: &impl Print, input: &[u8], store: &mut [u8]) -> io::Result<()> {
     if input.len() < TABLE {
-        return;
+        return Ok(());
     }
     let size = input.len() - TABLE;
     if store.len() < size {
-        return;
+        return Ok(());
     }
     let bytes = wide_of(input);
     let records = wide_of(&input[WIDE..]);
-    move_copy(&input[TABLE..], bytes, records, &mut store[0..size]);
+    move_copy(rt, &input[TABLE..], bytes, records, &mut store[0..size])
 }
 
 // Moves the second table, which stands behind the first.
 // What the decoder promises of its counts is tested again, so that no proof needs it.
-fn join(first: Message, second: Message, store: &mut [u8]) {
+fn join(rt: &impl Print, first: Message, second: Message, store: &mut [u8]) -> io::Result<()> {
     if store.len() / Record::SIZE < second.records {
-        return;
+        return Ok(());
     }
     if first.length < Header::SIZE {
-        return;
+        return Ok(());
     }
     let bytes = first.length - Header::SIZE;
     let table = &mut store[0..second.records * Record::SIZE];
     match rules::shifting::shift(table, bytes, first.records) {
         Shifted::Accepted(records) => {
-            crate::write_refusal(0, 0);
+            crate::write_refusal(rt, 0, 0)?;
             crate::write_counts(
+                rt,
                 first.errors | second.errors,
                 wrapping_add_usize(first.records, records),
                 wrapping_add_usize(first.tried, second.tried),
                 wrapping_add_usize(bytes, second.length),
-            );
+            )
         }
-        Shifted::Refused(why) => crate::write_refusal(why.number(), why.amount()),
+        Shifted::Refused(why) => crate::write_refusal(rt, why.number(), why.amount()),
     }
 }
 
 // The second message is decoded behind the records of the first.
-fn behind(reading: Reading, limit: usize, first: Message, input: &[u8], store: &mut [u8]) {
+fn behind(
+    rt: &impl Print,
+    reading: Reading,
+    limit: usize,
+    first: Message,
+    input: &[u8],
+    store: &mut [u8],
+) -> io::Result<()> {
     if store.len() / Record::SIZE < first.records {
-        return;
+        return Ok(());
     }
     let rest = &mut store[first.records * Record::SIZE..];
     match diameter::parse(reading, limit, input, rest) {
-        Decoded::Accepted(second) => join(first, second, rest),
-        Decoded::Refused(why) => crate::write_refusal(why.number(), why.amount()),
+        Decoded::Accepted(second) => join(rt, first, second, rest),
+        Decoded::Refused(why) => crate::write_refusal(rt, why.number(), why.amount()),
     }
 }
 
 // The size of the first message, that message and the second stand in the input one after the other.
-pub(super) fn joined(reading: Reading, limit: usize, input: &[u8], store: &mut [u8]) {
+pub(super) fn joined(
+    rt: &impl Print,
+    reading: Reading,
+    limit: usize,
+    input: &[u8],
+    store: &mut [u8],
+) -> io::Result<()> {
     if input.len() < crate::NUMBER {
-        return;
+        return Ok(());
     }
     let size = crate::number_of(input) as usize;
     if input.len() - crate::NUMBER < size {
-        return;
+        return Ok(());
     }
     let end = crate::NUMBER + size;
     match diameter::parse(reading, limit, &input[crate::NUMBER..end], store) {
-        Decoded::Accepted(first) => behind(reading, limit, first, &input[end..], store),
-        Decoded::Refused(why) => crate::write_refusal(why.number(), why.amount()),
+        Decoded::Accepted(first) => behind(rt, reading, limit, first, &input[end..], store),
+        Decoded::Refused(why) => crate::write_refusal(rt, why.number(), why.amount()),
     }
 }

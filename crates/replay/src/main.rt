@@ -14,6 +14,8 @@ use header::{Header, Parsed};
 use record::Record;
 use record::outline::Outline;
 use record::written::Written;
+use std::io;
+use std::io::{ErrorKind, Read};
 use steps::{Found, Step};
 use unit_value::{Compared, Ordering, UnitValue};
 use writer::Fields;
@@ -29,88 +31,94 @@ const SPARE: usize = 5;
 // What the store holds as it is lent.
 const LENT: u8 = 0xA5;
 
-fn write_u8(v: u8) {
-    io::write_all(1, &[v]);
+fn write_u8(rt: &impl Print, v: u8) -> io::Result<()> {
+    rt.write_all(&[v])
 }
 
-fn write_u16(v: usize) {
-    io::write_all(1, &octets::to_be_u16((v % 0x1_0000) as u32));
+fn write_u16(rt: &impl Print, v: usize) -> io::Result<()> {
+    rt.write_all(&octets::to_be_u16((v % 0x1_0000) as u32))
 }
 
-fn write_u24(v: u32) {
-    io::write_all(1, &octets::to_be_u24(v));
+fn write_u24(rt: &impl Print, v: u32) -> io::Result<()> {
+    rt.write_all(&octets::to_be_u24(v))
 }
 
-fn write_u32(v: u32) {
-    io::write_all(1, &octets::to_be_u32(v));
+fn write_u32(rt: &impl Print, v: u32) -> io::Result<()> {
+    rt.write_all(&octets::to_be_u32(v))
 }
 
-fn write_count(v: usize) {
-    write_u32((v % 0x1_0000_0000) as u32);
+fn write_count(rt: &impl Print, v: usize) -> io::Result<()> {
+    write_u32(rt, (v % 0x1_0000_0000) as u32)
 }
 
-fn write_refusal(number: u8, amount: usize) {
-    write_u8(number);
-    write_count(amount);
+fn write_refusal(rt: &impl Print, number: u8, amount: usize) -> io::Result<()> {
+    write_u8(rt, number)?;
+    write_count(rt, amount)
 }
 
-fn write_header(h: Header) {
-    write_u8(h.version);
-    write_u24(h.length);
-    write_u8(h.flags);
-    write_u24(h.code);
-    write_u32(h.app_id);
-    write_u32(h.hop_id);
-    write_u32(h.end_id);
+fn write_header(rt: &impl Print, h: Header) -> io::Result<()> {
+    write_u8(rt, h.version)?;
+    write_u24(rt, h.length)?;
+    write_u8(rt, h.flags)?;
+    write_u24(rt, h.code)?;
+    write_u32(rt, h.app_id)?;
+    write_u32(rt, h.hop_id)?;
+    write_u32(rt, h.end_id)
 }
 
-fn write_counts(errors: u8, records: usize, tried: usize, length: usize) {
-    write_u8(errors);
-    write_u16(records);
-    write_count(tried);
-    write_count(length);
+fn write_counts(
+    rt: &impl Print,
+    errors: u8,
+    records: usize,
+    tried: usize,
+    length: usize,
+) -> io::Result<()> {
+    write_u8(rt, errors)?;
+    write_u16(rt, records)?;
+    write_count(rt, tried)?;
+    write_count(rt, length)
 }
 
-fn write_message(d: Decoded) {
+fn write_message(rt: &impl Print, d: Decoded) -> io::Result<()> {
     match d {
         Decoded::Accepted(m) => {
-            write_refusal(0, 0);
-            write_header(m.header);
-            write_counts(m.errors, m.records, m.tried, m.length);
+            write_refusal(rt, 0, 0)?;
+            write_header(rt, m.header)?;
+            write_counts(rt, m.errors, m.records, m.tried, m.length)
         }
-        Decoded::Refused(why) => write_refusal(why.number(), why.amount()),
+        Decoded::Refused(why) => write_refusal(rt, why.number(), why.amount()),
     }
 }
 
-fn header_alone(input: &[u8]) {
+fn header_alone(rt: &impl Print, input: &[u8]) -> io::Result<()> {
     match Header::parse(input) {
         Parsed::Accepted { header, errors } => {
-            write_refusal(0, 0);
-            write_header(header);
-            write_counts(errors, 0, 0, Header::SIZE);
+            write_refusal(rt, 0, 0)?;
+            write_header(rt, header)?;
+            write_counts(rt, errors, 0, 0, Header::SIZE)
         }
-        Parsed::Refused(why) => write_refusal(why.number(), why.amount()),
+        Parsed::Refused(why) => write_refusal(rt, why.number(), why.amount()),
     }
 }
 
-fn write_avp(f: Filled) {
+fn write_avp(rt: &impl Print, f: Filled) -> io::Result<()> {
     match f {
         Filled::Accepted(one) => {
-            write_refusal(0, 0);
-            write_counts(one.errors, one.records, one.tried, one.length);
+            write_refusal(rt, 0, 0)?;
+            write_counts(rt, one.errors, one.records, one.tried, one.length)
         }
-        Filled::Refused(why) => write_refusal(why.number(), why.amount()),
+        Filled::Refused(why) => write_refusal(rt, why.number(), why.amount()),
     }
 }
 
-fn write_outline(o: Outline) {
-    write_u32(o.code);
-    write_u8(o.flags);
-    write_u24(o.length);
-    write_u32(o.vendor);
-    write_count(o.place);
-    write_u8(o.padding);
-    write_u24(o.pads);
+fn write_outline(rt: &impl Print, o: Outline) -> io::Result<()> {
+    write_u32(rt, o.code)?;
+    write_u8(rt, o.flags)?;
+    write_u24(rt, o.length)?;
+    write_u32(rt, o.vendor)?;
+    write_count(rt, o.place)?;
+    write_u8(rt, o.padding)?;
+    write_u24(rt, o.pads)
 }
 
 // A code, an edition or a size stands in the input before what is read by it.
@@ -122,73 +130,77 @@ fn number_of(input: &[u8]) -> u32
     octets::be_u32(input[0], input[1], input[2], input[3])
 }
 
-fn message_by(limit: usize, input: &[u8], store: &mut [u8]) {
+fn message_by(rt: &impl Print, limit: usize, input: &[u8], store: &mut [u8]) -> io::Result<()> {
     if input.len() < NUMBER {
-        return;
+        return Ok(());
     }
-    write_message(diameter::parse_by(number_of(input), limit, &input[NUMBER..], store));
+    write_message(
+        rt,
+        diameter::parse_by(number_of(input), limit, &input[NUMBER..], store),
+    )
 }
 
-fn avp_by(limit: usize, input: &[u8], store: &mut [u8]) {
+fn avp_by(rt: &impl Print, limit: usize, input: &[u8], store: &mut [u8]) -> io::Result<()> {
     if input.len() < NUMBER {
-        return;
+        return Ok(());
     }
-    write_avp(avp_alone::parse_avp_by(number_of(input), limit, &input[NUMBER..], store));
+    write_avp(
+        rt,
+        avp_alone::parse_avp_by(number_of(input), limit, &input[NUMBER..], store),
+    )
 }
 
-fn find(input: &[u8]) {
+fn find(rt: &impl Print, input: &[u8]) -> io::Result<()> {
     if input.len() < NUMBER {
-        return;
+        return Ok(());
     }
     match reader::find(&input[NUMBER..], number_of(input)) {
         Found::At(o) => {
-            write_refusal(0, 0);
-            write_u8(1);
-            write_outline(o);
+            write_refusal(rt, 0, 0)?;
+            write_u8(rt, 1)?;
+            write_outline(rt, o)
         }
         Found::None => {
-            write_refusal(0, 0);
-            write_u8(0);
+            write_refusal(rt, 0, 0)?;
+            write_u8(rt, 0)
         }
-        Found::Refused(why) => write_refusal(why.number(), why.amount()),
+        Found::Refused(why) => write_refusal(rt, why.number(), why.amount()),
     }
 }
 
 // What a step found; false where it is no AVP.
-fn write_step(s: Step) -> bool {
+fn write_step(rt: &impl Print, s: Step) -> io::Result<bool> {
     match s {
         Step::At(o) => {
-            write_u8(1);
-            write_outline(o);
-            true
+            write_u8(rt, 1)?;
+            write_outline(rt, o)?;
+            Ok(true)
         }
         Step::Broken => {
-            write_u8(2);
-            false
+            write_u8(rt, 2)?;
+            Ok(false)
         }
         Step::End => {
-            write_u8(0);
-            false
+            write_u8(rt, 0)?;
+            Ok(false)
         }
     }
 }
 
 // Each step over the AVPs of a message, up to the end or the failing place, and where the reader then stands.
-fn steps(message: &[u8]) {
+fn steps(rt: &impl Print, message: &[u8]) -> io::Result<()> {
     let mut place = Header::SIZE;
-    let mut left: usize = BUFFER_SIZE;
-    let mut more = true;
-    while more {
-        if left == 0 {
-            return;
-        }
-        left -= 1;
+    for _ in 0..BUFFER_SIZE {
         let s = reader::next(message, place);
         let found = s.found;
-        more = write_step(found);
+        let more = write_step(rt, found)?;
         place = s.place;
-        write_count(place);
+        write_count(rt, place)?;
+        if !more {
+            break;
+        }
     }
+    Ok(())
 }
 
 // The fields, the length of the table, the table and the pool stand in the input one after the other.
@@ -206,26 +218,29 @@ fn fields_of(f: &[u8]) -> Fields
     }
 }
 
-fn write_written(w: Written) {
+fn write_written(rt: &impl Print, w: Written) -> io::Result<()> {
     match w {
         Written::Accepted(total) => {
-            write_refusal(0, 0);
-            write_count(total);
+            write_refusal(rt, 0, 0)?;
+            write_count(rt, total)
         }
-        Written::Refused(why) => write_refusal(why.number(), why.amount()),
+        Written::Refused(why) => write_refusal(rt, why.number(), why.amount()),
     }
 }
 
-fn table(input: &[u8], out: &mut [u8]) {
+fn table(rt: &impl Print, input: &[u8], out: &mut [u8]) -> io::Result<()> {
     if input.len() < TABLE {
-        return;
+        return Ok(());
     }
     let size = octets::be_u32(input[17], input[18], input[19], input[20]) as usize;
     if input.len() - TABLE < size {
-        return;
+        return Ok(());
     }
     let end = TABLE + size;
-    write_written(writer::write(fields_of(input), &input[TABLE..end], &input[end..], out));
+    write_written(
+        rt,
+        writer::write(fields_of(input), &input[TABLE..end], &input[end..], out),
+    )
 }
 
 // Two Unit-Values stand in the input one after the other, each as the data of its Value-Digits and of its Exponent.
@@ -240,24 +255,24 @@ fn unit_value_of(v: &[u8]) -> UnitValue
     }
 }
 
-fn write_order(o: Ordering) {
+fn write_order(rt: &impl Print, o: Ordering) -> io::Result<()> {
     match o {
-        Ordering::Less => write_u8(0),
-        Ordering::Equal => write_u8(1),
-        Ordering::Greater => write_u8(2),
+        Ordering::Less => write_u8(rt, 0),
+        Ordering::Equal => write_u8(rt, 1),
+        Ordering::Greater => write_u8(rt, 2),
     }
 }
 
-fn comparison(input: &[u8]) {
+fn comparison(rt: &impl Print, input: &[u8]) -> io::Result<()> {
     if input.len() < 2 * UNIT_VALUE {
-        return;
+        return Ok(());
     }
     match unit_value::compare(unit_value_of(input), unit_value_of(&input[UNIT_VALUE..])) {
         Compared::Is(o) => {
-            write_refusal(0, 0);
-            write_order(o);
+            write_refusal(rt, 0, 0)?;
+            write_order(rt, o)
         }
-        Compared::Refused(why) => write_refusal(why.number(), why.amount()),
+        Compared::Refused(why) => write_refusal(rt, why.number(), why.amount()),
     }
 }
 
@@ -273,25 +288,30 @@ fn lend(store: &mut [u8]) {
     }
 }
 
-fn answer(frame: [u8; FRAME_SIZE], input: &[u8], store: &mut [u8]) {
+fn answer(
+    rt: &impl Print,
+    frame: [u8; FRAME_SIZE],
+    input: &[u8],
+    store: &mut [u8],
+) -> io::Result<()> {
     lend(store);
     let function = frame[0];
     let reading = reading_of(frame[1]);
     let limit = frame[2] as usize;
     match function {
-        0 => write_message(diameter::parse(reading, limit, input, store)),
-        1 => header_alone(input),
-        2 => write_avp(avp_alone::parse_avp(reading, limit, input, store)),
-        4 => find(input),
-        5 => steps(input),
-        6 => message_by(limit, input, store),
-        7 => avp_by(limit, input, store),
-        8 => comparison(input),
-        9 => packets::packet(input, store),
-        10 => packets::table(input, store),
-        11 => joining::moved(input, store),
-        12 => joining::joined(reading, limit, input, store),
-        _ => table(input, store),
+        0 => write_message(rt, diameter::parse(reading, limit, input, store)),
+        1 => header_alone(rt, input),
+        2 => write_avp(rt, avp_alone::parse_avp(reading, limit, input, store)),
+        4 => find(rt, input),
+        5 => steps(rt, input),
+        6 => message_by(rt, limit, input, store),
+        7 => avp_by(rt, limit, input, store),
+        8 => comparison(rt, input),
+        9 => packets::packet(rt, input, store),
+        10 => packets::table(rt, input, store),
+        11 => joining::moved(rt, input, store),
+        12 => joining::joined(rt, reading, limit, input, store),
+        _ => table(rt, input, store),
     }
 }
 
@@ -304,13 +324,29 @@ fn store_size(frame: [u8; FRAME_SIZE]) -> usize {
     octets::be_u16(frame[3], frame[4]) as usize * Record::SIZE + SPARE
 }
 
-// Reads the input of a frame, answers it and writes the store; false where the input is cut off.
-fn exchange(frame: [u8; FRAME_SIZE], input: &mut [u8], store: &mut [u8]) -> bool {
-    if io::read_full(0, input) < input.len() {
-        return false;
+// Fills the buffer; false where the input ends before it is full.
+fn read_full(from: &mut impl Read, buf: &mut [u8]) -> io::Result<bool> {
+    match from.read_exact(buf) {
+        Ok(()) => Ok(true),
+        Err(error) if error.kind() == ErrorKind::UnexpectedEof => Ok(false),
+        Err(error) => Err(error),
     }
-    answer(frame, input, store);
-    io::write_all(1, store)
+}
+
+// Reads the input of a frame, answers it and writes the store; false where the input is cut off.
+fn exchange(
+    rt: &impl Print,
+    from: &mut impl Read,
+    frame: [u8; FRAME_SIZE],
+    input: &mut [u8],
+    store: &mut [u8],
+) -> io::Result<bool> {
+    if !read_full(from, input)? {
+        return Ok(false);
+    }
+    answer(rt, frame, input, store)?;
+    rt.write_all(store)?;
+    Ok(true)
 }
 
 // A function of its own, so that its caller is proved by the length and not byte by byte.
@@ -321,32 +357,30 @@ fn zeros() -> [u8; BUFFER_SIZE]
 }
 
 // Reads a frame and answers it; false where there is none.
-fn next() -> bool {
+fn next(rt: &impl Print, from: &mut impl Read) -> io::Result<bool> {
     let mut frame = [0u8; FRAME_SIZE];
-    if io::read_full(0, &mut frame) < FRAME_SIZE {
-        return false;
+    if !read_full(from, &mut frame)? {
+        return Ok(false);
     }
     let mut input = zeros();
     let mut store = zeros();
     let size = input_size(frame);
     let room = store_size(frame);
     if BUFFER_SIZE < size {
-        return false;
+        return Ok(false);
     }
     if BUFFER_SIZE < room {
-        return false;
+        return Ok(false);
     }
-    exchange(frame, &mut input[..size], &mut store[..room])
+    exchange(rt, from, frame, &mut input[..size], &mut store[..room])
 }
 
-fn main() {
-    let mut more = true;
-    let mut left: u64 = 0xFFFF_FFFF_FFFF_FFFF;
-    while more {
-        if left == 0 {
-            return;
+fn main(rt: HostRuntime) -> io::Result<()> {
+    let mut from = rt.stdin();
+    for _ in 0..u64::MAX {
+        if !next(&rt, &mut from)? {
+            break;
         }
-        left -= 1;
-        more = next();
     }
+    Ok(())
 }

@@ -3,26 +3,27 @@ ghost use Rattle.std.specs.Prelude.{◌≤◌, length};
 
 use radius::Decoded;
 use radius_writer::Fields;
+use std::io;
 
-fn write_packet(d: Decoded) {
+fn write_packet(rt: &impl Print, d: Decoded) -> io::Result<()> {
     match d {
         Decoded::Accepted(p) => {
-            crate::write_refusal(0, 0);
-            crate::write_u8(p.code);
-            crate::write_u8(p.identifier);
-            crate::write_counts(p.errors, p.records, p.tried, p.length);
+            crate::write_refusal(rt, 0, 0)?;
+            crate::write_u8(rt, p.code)?;
+            crate::write_u8(rt, p.identifier)?;
+            crate::write_counts(rt, p.errors, p.records, p.tried, p.length)
         }
-        Decoded::Refused(why) => crate::write_refusal(why.number(), why.amount()),
+        Decoded::Refused(why) => crate::write_refusal(rt, why.number(), why.amount()),
     }
 }
 
 // The authenticator follows in any case, since it is zero where the packet is refused.
-pub(super) fn packet(input: &[u8], store: &mut [u8]) {
+pub(super) fn packet(rt: &impl Print, input: &[u8], store: &mut [u8]) -> io::Result<()> {
     let p = radius::parse(input, store);
     let decoded = p.decoded;
     let authenticator = p.authenticator;
-    write_packet(decoded);
-    io::write_all(1, &authenticator);
+    write_packet(rt, decoded)?;
+    rt.write_all(&authenticator)
 }
 
 // The header's fields, the length of the table, the table and the pool stand in the input one after the other.
@@ -41,19 +42,17 @@ fn fields_of(f: &[u8]) -> Fields
     }
 }
 
-pub(super) fn table(input: &[u8], out: &mut [u8]) {
+pub(super) fn table(rt: &impl Print, input: &[u8], out: &mut [u8]) -> io::Result<()> {
     if input.len() < TABLE {
-        return;
+        return Ok(());
     }
     let size = octets::be_u32(input[18], input[19], input[20], input[21]) as usize;
     if input.len() - TABLE < size {
-        return;
+        return Ok(());
     }
     let end = TABLE + size;
-    crate::write_written(radius_writer::write(
-        fields_of(input),
-        &input[TABLE..end],
-        &input[end..],
-        out,
-    ));
+    crate::write_written(
+        rt,
+        radius_writer::write(fields_of(input), &input[TABLE..end], &input[end..], out),
+    )
 }

@@ -1,4 +1,4 @@
-// The library for C and Rust: each public way to decode and to write, over numbers and byte slices, by the C calling convention.
+// The library for C and Rust: each public way to decode and to write, over numbers and byte slices. `tandrekily_c` hands it to C.
 // This crate knows what each function is asked; how the answer is laid out as numbers is that of results.
 #![tactic(auto)]
 
@@ -29,8 +29,7 @@ fn reading_of(rfc: bool) -> Reading
 }
 
 /// Decodes the message at the front of `input` into records in `store`.
-#[unsafe(no_mangle)]
-pub extern "C" fn tandrekily_message(
+pub fn tandrekily_message(
     rfc: bool,
     limit: usize,
     input: &[u8],
@@ -44,8 +43,7 @@ pub extern "C" fn tandrekily_message(
 }
 
 /// The same by an edition of the credit-control dictionary, 4006 or 8506.
-#[unsafe(no_mangle)]
-pub extern "C" fn tandrekily_message_by(
+pub fn tandrekily_message_by(
     edition: u32,
     limit: usize,
     input: &[u8],
@@ -59,16 +57,14 @@ pub extern "C" fn tandrekily_message_by(
 }
 
 /// Reads the header at the front of `input` alone.
-#[unsafe(no_mangle)]
-pub extern "C" fn tandrekily_header(input: &[u8], res: &mut [u64; RESULT])
+pub fn tandrekily_header(input: &[u8], res: &mut [u64; RESULT])
     ensures { res.new ≡ message_result (header_alone input.now) }
 {
     *res = results::of_header(Header::parse(input));
 }
 
 /// Decodes the one AVP at the front of `input`, at depth 1, into records in `store`.
-#[unsafe(no_mangle)]
-pub extern "C" fn tandrekily_avp(
+pub fn tandrekily_avp(
     rfc: bool,
     limit: usize,
     input: &[u8],
@@ -82,8 +78,7 @@ pub extern "C" fn tandrekily_avp(
 }
 
 /// The same by an edition of the credit-control dictionary, 4006 or 8506.
-#[unsafe(no_mangle)]
-pub extern "C" fn tandrekily_avp_by(
+pub fn tandrekily_avp_by(
     edition: u32,
     limit: usize,
     input: &[u8],
@@ -97,16 +92,14 @@ pub extern "C" fn tandrekily_avp_by(
 }
 
 /// The first AVP with this code at the top level of the message at the front of `input`.
-#[unsafe(no_mangle)]
-pub extern "C" fn tandrekily_find(input: &[u8], code: u32, res: &mut [u64; OUTLINE])
+pub fn tandrekily_find(input: &[u8], code: u32, res: &mut [u64; OUTLINE])
     ensures { res.new ≡ found_result (sought code input.now) }
 {
     *res = results::of_found(reader::find(input, code));
 }
 
 /// The AVP at `place` of a message, and the place past it.
-#[unsafe(no_mangle)]
-pub extern "C" fn tandrekily_next(message: &[u8], place: usize, res: &mut [u64; OUTLINE]) -> usize
+pub fn tandrekily_next(message: &[u8], place: usize, res: &mut [u64; OUTLINE]) -> usize
     ensures place { result ≡ (step_at message.now place).place }
     ensures res { res.new ≡ step_result (step_at message.now place) }
 {
@@ -117,8 +110,7 @@ pub extern "C" fn tandrekily_next(message: &[u8], place: usize, res: &mut [u64; 
 }
 
 /// Writes the message of a table of records, whose data are in `pool`, to the front of `out`.
-#[unsafe(no_mangle)]
-pub extern "C" fn tandrekily_write(
+pub fn tandrekily_write(
     flags: u8,
     code: u32,
     app_id: u32,
@@ -143,13 +135,7 @@ pub extern "C" fn tandrekily_write(
 }
 
 /// Moves a table to where it stands behind another run, of so many bytes (a message's are its length less 20) and records.
-#[unsafe(no_mangle)]
-pub extern "C" fn tandrekily_shift(
-    table: &mut [u8],
-    bytes: usize,
-    records: usize,
-    res: &mut [u64; RESULT],
-)
+pub fn tandrekily_shift(table: &mut [u8], bytes: usize, records: usize, res: &mut [u64; RESULT])
     ensures res { res.new ≡ shifted_result (shift_answer bytes records table.old) }
     ensures table { table.new ≡ table_after bytes records (shift_answer bytes records table.old) table.old }
 {
@@ -157,16 +143,14 @@ pub extern "C" fn tandrekily_shift(
 }
 
 /// Is the text well-formed UTF-8 (RFC 3629)?
-#[unsafe(no_mangle)]
-pub extern "C" fn tandrekily_is_utf8(text: &[u8]) -> bool
+pub fn tandrekily_is_utf8(text: &[u8]) -> bool
     ensures { result ≡ well_formed text.now }
 {
     utf8::is_utf8(text)
 }
 
 /// The length in bytes of the text's longest prefix that is well-formed UTF-8 (RFC 3629): its own length where it is well-formed.
-#[unsafe(no_mangle)]
-pub extern "C" fn tandrekily_utf8(text: &[u8]) -> usize
+pub fn tandrekily_utf8(text: &[u8]) -> usize
     ensures { result ≡ valid_up_to text.now }
 {
     match utf8::check(text) {
@@ -176,32 +160,28 @@ pub extern "C" fn tandrekily_utf8(text: &[u8]) -> usize
 }
 
 /// A Time of the RFC reading in Unix seconds, from 1968-01-20 03:14:08 to 2104-02-26 09:42:23 UTC.
-#[unsafe(no_mangle)]
-pub extern "C" fn tandrekily_unix_seconds(time: u32) -> i64
+pub fn tandrekily_unix_seconds(time: u32) -> i64
     ensures { result ≡ unix_seconds time }
 {
     signed::unix_seconds(time)
 }
 
 /// The number behind the value of an Integer32 or an Enumerated.
-#[unsafe(no_mangle)]
-pub extern "C" fn tandrekily_integer32(bits: u32) -> i32
+pub fn tandrekily_integer32(bits: u32) -> i32
     ensures { result ≡ signed 32 bits }
 {
     signed::integer32(bits)
 }
 
 /// The number behind the value of an Integer64.
-#[unsafe(no_mangle)]
-pub extern "C" fn tandrekily_integer64(bits: u64) -> i64
+pub fn tandrekily_integer64(bits: u64) -> i64
     ensures { result ≡ signed 64 bits }
 {
     signed::integer64(bits)
 }
 
 /// How one Unit-Value stands to another: less is -1, equal 0, greater 1. The answer's number is returned.
-#[unsafe(no_mangle)]
-pub extern "C" fn tandrekily_compare(
+pub fn tandrekily_compare(
     digits: i64,
     exponent: i32,
     other_digits: i64,

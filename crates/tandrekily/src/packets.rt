@@ -8,8 +8,7 @@ use radius_writer::Fields;
 use results::packets::RESULT;
 
 /// Decodes the RADIUS packet at the front of `input` into records in `store`, and gives its authenticator.
-#[unsafe(no_mangle)]
-pub extern "C" fn tandrekily_radius(
+pub fn tandrekily_radius(
     input: &[u8],
     store: &mut [u8],
     authenticator: &mut [u8; Packet::AUTHENTICATOR],
@@ -34,8 +33,7 @@ pub extern "C" fn tandrekily_radius(
 }
 
 /// Writes the RADIUS packet of a table of records, whose data are in `pool`, to the front of `out`.
-#[unsafe(no_mangle)]
-pub extern "C" fn tandrekily_radius_write(
+pub fn tandrekily_radius_write(
     code: u8,
     identifier: u8,
     authenticator: &[u8; Fields::AUTHENTICATOR],

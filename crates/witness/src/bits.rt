@@ -2,8 +2,9 @@
 use crate::print;
 use avp::AVP;
 use header::Header;
+use std::io;
 
-fn of_header(flags: u8) {
+fn of_header(rt: &impl Print, flags: u8) -> io::Result<()> {
     let h = Header {
         version: 1,
         length: 20,
@@ -13,17 +14,17 @@ fn of_header(flags: u8) {
         hop_id: 0,
         end_id: 0,
     };
-    print::label(b"header");
-    print::number(flags as u64);
-    print::bit(h.is_request());
-    print::bit(h.is_proxiable());
-    print::bit(h.is_error());
-    print::bit(h.is_potentially_retransmitted());
-    print::number(h.get_reserved() as u64);
-    print::end();
+    print::label(rt, b"header")?;
+    print::number(rt, flags as u64)?;
+    print::bit(rt, h.is_request())?;
+    print::bit(rt, h.is_proxiable())?;
+    print::bit(rt, h.is_error())?;
+    print::bit(rt, h.is_potentially_retransmitted())?;
+    print::number(rt, h.get_reserved() as u64)?;
+    print::end(rt)
 }
 
-fn of_avp(flags: u8) {
+fn of_avp(rt: &impl Print, flags: u8) -> io::Result<()> {
     let a = AVP {
         code: 0,
         flags,
@@ -31,21 +32,22 @@ fn of_avp(flags: u8) {
         vendor_id: 0,
         size: 8,
     };
-    print::label(b"avp");
-    print::number(flags as u64);
-    print::bit(AVP::vendor_specific_flag(flags));
-    print::bit(a.is_vendor_specific());
-    print::bit(a.is_mandatory());
-    print::bit(a.is_protected());
-    print::number(a.get_reserved() as u64);
-    print::number(AVP::header_size_of(flags) as u64);
-    print::number(a.header_size() as u64);
-    print::end();
+    print::label(rt, b"avp")?;
+    print::number(rt, flags as u64)?;
+    print::bit(rt, AVP::vendor_specific_flag(flags))?;
+    print::bit(rt, a.is_vendor_specific())?;
+    print::bit(rt, a.is_mandatory())?;
+    print::bit(rt, a.is_protected())?;
+    print::number(rt, a.get_reserved() as u64)?;
+    print::number(rt, AVP::header_size_of(flags) as u64)?;
+    print::number(rt, a.header_size() as u64)?;
+    print::end(rt)
 }
 
-pub(super) fn lines() {
+pub(super) fn lines(rt: &impl Print) -> io::Result<()> {
     for flags in 0..=255u8 {
-        of_header(flags);
-        of_avp(flags);
+        of_header(rt, flags)?;
+        of_avp(rt, flags)?;
     }
+    Ok(())
 }

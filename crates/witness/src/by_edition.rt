@@ -2,16 +2,20 @@
 use crate::print;
 use attribute::Reading;
 use editions::{Chosen, Edition};
+use std::io;
 
 // Some more than the tables have.
 const CODES: u32 = 701;
 
-fn of_code(edition: u32, kinds: &[u8], code: u32) {
-    print::label(b"edition");
-    print::number(edition as u64);
-    print::number(code as u64);
-    print::number(attribute::kind(Reading::Rfc.dictionary(), kinds, code, 0) as u64);
-    print::end();
+fn of_code(rt: &impl Print, edition: u32, kinds: &[u8], code: u32) -> io::Result<()> {
+    print::label(rt, b"edition")?;
+    print::number(rt, edition as u64)?;
+    print::number(rt, code as u64)?;
+    print::number(
+        rt,
+        attribute::kind(Reading::Rfc.dictionary(), kinds, code, 0) as u64,
+    )?;
+    print::end(rt)
 }
 
 // A number that is no edition has no table.
@@ -22,11 +26,12 @@ fn kind_table(edition: u32) -> [u8; editions::CODES] {
     chosen.kind_table()
 }
 
-pub(super) fn lines() {
+pub(super) fn lines(rt: &impl Print) -> io::Result<()> {
     let older = kind_table(4006);
     let newer = kind_table(8506);
     for code in 0..CODES {
-        of_code(4006, &older, code);
-        of_code(8506, &newer, code);
+        of_code(rt, 4006, &older, code)?;
+        of_code(rt, 8506, &newer, code)?;
     }
+    Ok(())
 }

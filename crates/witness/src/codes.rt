@@ -2,48 +2,50 @@
 use crate::{names, print};
 use attribute::{Attribute, Reading};
 use record::kinds::GROUPED;
+use std::io;
 
 // One more than the tables have.
 const CODES: u32 = 513;
 
 const VENDOR: u32 = 10415;
 
-fn new(code: u32) {
-    print::label(b"new");
+fn new(rt: &impl Print, code: u32) -> io::Result<()> {
+    print::label(rt, b"new")?;
     let a = Attribute::new(code);
-    print::number(a.raw as u64);
+    print::number(rt, a.raw as u64)?;
     let named = a.code;
-    names::name(named);
-    print::end();
+    names::name(rt, named)?;
+    print::end(rt)
 }
 
-fn read(reading: Reading, kinds: &[u8], code: u32) {
+fn read(rt: &impl Print, reading: Reading, kinds: &[u8], code: u32) -> io::Result<()> {
     let a = Attribute::read(reading, code);
-    print::number(a.raw as u64);
+    print::number(rt, a.raw as u64)?;
     let named = a.code;
-    names::name(named);
+    names::name(rt, named)?;
     let d = reading.dictionary();
     let kind = attribute::kind(d, kinds, code, 0);
     let of_vendor = attribute::kind(d, kinds, code, VENDOR);
-    print::number(kind as u64);
-    print::number(of_vendor as u64);
-    print::bit(kind == GROUPED);
-    print::bit(of_vendor == GROUPED);
-    print::end();
+    print::number(rt, kind as u64)?;
+    print::number(rt, of_vendor as u64)?;
+    print::bit(rt, kind == GROUPED)?;
+    print::bit(rt, of_vendor == GROUPED)?;
+    print::end(rt)
 }
 
-fn of_code(sawp: &[u8], rfc: &[u8], code: u32) {
-    new(code);
-    print::label(b"sawp");
-    read(Reading::Sawp, sawp, code);
-    print::label(b"rfc");
-    read(Reading::Rfc, rfc, code);
+fn of_code(rt: &impl Print, sawp: &[u8], rfc: &[u8], code: u32) -> io::Result<()> {
+    new(rt, code)?;
+    print::label(rt, b"sawp")?;
+    read(rt, Reading::Sawp, sawp, code)?;
+    print::label(rt, b"rfc")?;
+    read(rt, Reading::Rfc, rfc, code)
 }
 
-pub(super) fn lines() {
+pub(super) fn lines(rt: &impl Print) -> io::Result<()> {
     let sawp = attribute::kind_table(Reading::Sawp);
     let rfc = attribute::kind_table(Reading::Rfc);
     for code in 0..CODES {
-        of_code(&sawp, &rfc, code);
+        of_code(rt, &sawp, &rfc, code)?;
     }
+    Ok(())
 }

@@ -2,6 +2,7 @@
 use crate::print;
 use record::Record;
 use results::{OUTLINE, RESULT};
+use std::io;
 
 const P8: [u8; 36] =
     *b"\x01\0\0\x24\0\0\0\0\0\0\0\0\0\0\0\0\0\0\0\0\0\0\x01\x0C\0\0\0\x0D\0\0\x07\xD1\0\0\0\0";
@@ -20,150 +21,161 @@ const STORE: usize = 41;
 // What lent memory holds before a call.
 const LENT: u8 = 0xA5;
 
-fn show(res: &[u64; RESULT], lent: &[u8]) {
-    print::result(res);
-    print::word(b"leaves");
-    print::bytes(lent);
-    print::end();
+fn show(rt: &impl Print, res: &[u64; RESULT], lent: &[u8]) -> io::Result<()> {
+    print::result(rt, res)?;
+    print::word(rt, b"leaves")?;
+    print::bytes(rt, lent)?;
+    print::end(rt)
 }
 
-fn read_message(rfc: bool, limit: usize, store: &mut [u8]) {
+fn read_message(rt: &impl Print, rfc: bool, limit: usize, store: &mut [u8]) -> io::Result<()> {
     let mut result = [0u64; RESULT];
     tandrekily::tandrekily_message(rfc, limit, &P8, store, &mut result);
-    show(&result, store);
+    show(rt, &result, store)
 }
 
-fn message(rfc: bool, limit: usize) {
-    print::label(b"message");
-    print::bit(rfc);
-    print::number(limit as u64);
-    read_message(rfc, limit, &mut [LENT; STORE]);
+fn message(rt: &impl Print, rfc: bool, limit: usize) -> io::Result<()> {
+    print::label(rt, b"message")?;
+    print::bit(rt, rfc)?;
+    print::number(rt, limit as u64)?;
+    read_message(rt, rfc, limit, &mut [LENT; STORE])
 }
 
-fn read_avp(rfc: bool, limit: usize, store: &mut [u8]) {
+fn read_avp(rt: &impl Print, rfc: bool, limit: usize, store: &mut [u8]) -> io::Result<()> {
     let mut result = [0u64; RESULT];
     tandrekily::tandrekily_avp(rfc, limit, &P8[20..], store, &mut result);
-    show(&result, store);
+    show(rt, &result, store)
 }
 
-fn avp(rfc: bool, limit: usize) {
-    print::label(b"one-avp");
-    print::bit(rfc);
-    print::number(limit as u64);
-    read_avp(rfc, limit, &mut [LENT; STORE]);
+fn avp(rt: &impl Print, rfc: bool, limit: usize) -> io::Result<()> {
+    print::label(rt, b"one-avp")?;
+    print::bit(rt, rfc)?;
+    print::number(rt, limit as u64)?;
+    read_avp(rt, rfc, limit, &mut [LENT; STORE])
 }
 
-fn read_message_by(edition: u32, limit: usize, store: &mut [u8]) {
+fn read_message_by(
+    rt: &impl Print,
+    edition: u32,
+    limit: usize,
+    store: &mut [u8],
+) -> io::Result<()> {
     let mut result = [0u64; RESULT];
     tandrekily::tandrekily_message_by(edition, limit, &P8, store, &mut result);
-    show(&result, store);
+    show(rt, &result, store)
 }
 
-fn message_by(edition: u32, limit: usize) {
-    print::label(b"message_by");
-    print::number(edition as u64);
-    print::number(limit as u64);
-    read_message_by(edition, limit, &mut [LENT; STORE]);
+fn message_by(rt: &impl Print, edition: u32, limit: usize) -> io::Result<()> {
+    print::label(rt, b"message-by")?;
+    print::number(rt, edition as u64)?;
+    print::number(rt, limit as u64)?;
+    read_message_by(rt, edition, limit, &mut [LENT; STORE])
 }
 
-fn read_avp_by(edition: u32, limit: usize, store: &mut [u8]) {
+fn read_avp_by(rt: &impl Print, edition: u32, limit: usize, store: &mut [u8]) -> io::Result<()> {
     let mut result = [0u64; RESULT];
     tandrekily::tandrekily_avp_by(edition, limit, &P8[20..], store, &mut result);
-    show(&result, store);
+    show(rt, &result, store)
 }
 
-fn avp_by(edition: u32, limit: usize) {
-    print::label(b"avp-by");
-    print::number(edition as u64);
-    print::number(limit as u64);
-    read_avp_by(edition, limit, &mut [LENT; STORE]);
+fn avp_by(rt: &impl Print, edition: u32, limit: usize) -> io::Result<()> {
+    print::label(rt, b"avp-by")?;
+    print::number(rt, edition as u64)?;
+    print::number(rt, limit as u64)?;
+    read_avp_by(rt, edition, limit, &mut [LENT; STORE])
 }
 
 // An edition, another, none; and with a limit that is not allowed.
-fn by_edition() {
-    message_by(4006, 64);
-    message_by(8506, 64);
-    message_by(1, 64);
-    message_by(8506, 0);
-    message_by(1, 0);
-    avp_by(4006, 64);
-    avp_by(8506, 64);
-    avp_by(1, 64);
-    avp_by(8506, 0);
-    avp_by(1, 0);
+fn by_edition(rt: &impl Print) -> io::Result<()> {
+    message_by(rt, 4006, 64)?;
+    message_by(rt, 8506, 64)?;
+    message_by(rt, 1, 64)?;
+    message_by(rt, 8506, 0)?;
+    message_by(rt, 1, 0)?;
+    avp_by(rt, 4006, 64)?;
+    avp_by(rt, 8506, 64)?;
+    avp_by(rt, 1, 64)?;
+    avp_by(rt, 8506, 0)?;
+    avp_by(rt, 1, 0)
 }
 
-fn header() {
+fn header(rt: &impl Print) -> io::Result<()> {
     let mut result = [0u64; RESULT];
     tandrekily::tandrekily_header(&P8, &mut result);
-    print::label(b"header-alone");
-    print::result(&result);
-    print::end();
+    print::label(rt, b"header-alone")?;
+    print::result(rt, &result)?;
+    print::end(rt)
 }
 
 // In the message, and in one that breaks off.
-fn find(code: u32) {
+fn find(rt: &impl Print, code: u32) -> io::Result<()> {
     let mut outline = [0u64; OUTLINE];
     tandrekily::tandrekily_find(&P8, code, &mut outline);
-    print::label(b"find");
-    print::number(code as u64);
-    print::outline(&outline);
+    print::label(rt, b"find")?;
+    print::number(rt, code as u64)?;
+    print::outline(rt, &outline)?;
     tandrekily::tandrekily_find(&BROKEN, code, &mut outline);
-    print::outline(&outline);
-    print::end();
+    print::outline(rt, &outline)?;
+    print::end(rt)
 }
 
-fn next(place: usize) {
+fn next(rt: &impl Print, place: usize) -> io::Result<()> {
     let mut outline = [0u64; OUTLINE];
     let past = tandrekily::tandrekily_next(&P8, place, &mut outline);
-    print::label(b"next");
-    print::number(place as u64);
-    print::number(past as u64);
-    print::outline(&outline);
-    print::end();
+    print::label(rt, b"next")?;
+    print::number(rt, place as u64)?;
+    print::number(rt, past as u64)?;
+    print::outline(rt, &outline)?;
+    print::end(rt)
 }
 
-fn write(out: &mut [u8]) {
+fn write(rt: &impl Print, out: &mut [u8]) -> io::Result<()> {
     let mut result = [0u64; RESULT];
     tandrekily::tandrekily_write(0x80, 257, 1, 2, 3, &TABLE, &P8, out, &mut result);
-    print::label(b"write");
-    show(&result, out);
+    print::label(rt, b"write")?;
+    show(rt, &result, out)
 }
 
 // The output holds the message, and then it doesn't.
-fn writes() {
-    write(&mut [LENT; 40]);
-    write(&mut [LENT; 35]);
+fn writes(rt: &impl Print) -> io::Result<()> {
+    write(rt, &mut [LENT; 40])?;
+    write(rt, &mut [LENT; 35])
 }
 
 // A group at depth 1 and its member at depth 2. The bytes that no move changes are letters, but for the depths.
 const ROWS: [u8; 2 * Record::SIZE] =
     *b"abcdefghijkl\0\0\0\x1C\x01mnopqrstuvwxyzA\xFF\xFF\xFF\xFFBCDEFGHIJKLM\0\0\0\x24\x02NOPQRSTUVWXYZab\0\0\0\0";
 
-fn shift(table: &mut [u8], bytes: usize, records: usize) {
+fn shift(rt: &impl Print, table: &mut [u8], bytes: usize, records: usize) -> io::Result<()> {
     let mut result = [0u64; RESULT];
     tandrekily::tandrekily_shift(table, bytes, records, &mut result);
-    print::label(b"shift");
-    print::number(bytes as u64);
-    print::number(records as u64);
-    show(&result, table);
+    print::label(rt, b"shift")?;
+    print::number(rt, bytes as u64)?;
+    print::number(rt, records as u64)?;
+    show(rt, &result, table)
 }
 
 // The rows are moved. Then the member's place doesn't fit its four bytes, and then its parent doesn't.
 // Then the last byte is absent.
-fn shifts() {
+fn shifts(rt: &impl Print) -> io::Result<()> {
     let mut rows = ROWS;
-    shift(&mut rows, 44, 3);
+    shift(rt, &mut rows, 44, 3)?;
     rows = ROWS;
-    shift(&mut rows, 0xFFFF_FFDC, 3);
-    shift(&mut rows, 44, 0x1_0000_0000);
-    shift(&mut rows[0..2 * Record::SIZE - 1], 44, 3);
+    shift(rt, &mut rows, 0xFFFF_FFDC, 3)?;
+    shift(rt, &mut rows, 44, 0x1_0000_0000)?;
+    shift(rt, &mut rows[0..2 * Record::SIZE - 1], 44, 3)
 }
 
 // What the order holds before a comparison.
 const NO_ORDER: i32 = 7;
 
-fn compare(digits: i64, exponent: i32, other_digits: i64, other_exponent: i32) {
+fn compare(
+    rt: &impl Print,
+    digits: i64,
+    exponent: i32,
+    other_digits: i64,
+    other_exponent: i32,
+) -> io::Result<()> {
     let mut order = NO_ORDER;
     let number = tandrekily::tandrekily_compare(
         digits,
@@ -172,58 +184,58 @@ fn compare(digits: i64, exponent: i32, other_digits: i64, other_exponent: i32) {
         other_exponent,
         &mut order,
     );
-    print::label(b"compare");
-    print::signed(digits);
-    print::signed32(exponent);
-    print::signed(other_digits);
-    print::signed32(other_exponent);
-    print::number(number as u64);
-    print::signed32(order);
-    print::end();
+    print::label(rt, b"compare")?;
+    print::signed(rt, digits)?;
+    print::signed32(rt, exponent)?;
+    print::signed(rt, other_digits)?;
+    print::signed32(rt, other_exponent)?;
+    print::number(rt, number as u64)?;
+    print::signed32(rt, order)?;
+    print::end(rt)
 }
 
 const LARGEST: i64 = 0x7FFF_FFFF_FFFF_FFFF;
 
 const SMALLEST: i64 = -0x8000_0000_0000_0000;
 
-fn comparisons() {
-    compare(15, 0, 150, -1);
-    compare(-15, 0, 15, 0);
-    compare(15, 0, -15, 0);
-    compare(0, 18, 0, -18);
-    compare(9, 18, 9_000_000_000_000_000_001, 0);
-    compare(9, 18, 8_999_999_999_999_999_999, 0);
-    compare(-9, 18, -9_000_000_000_000_000_000, 0);
-    compare(LARGEST, 18, LARGEST, 18);
-    compare(SMALLEST, 18, LARGEST, -18);
-    compare(1, 1, LARGEST, -18);
-    compare(-1, 1, SMALLEST, -18);
+fn comparisons(rt: &impl Print) -> io::Result<()> {
+    compare(rt, 15, 0, 150, -1)?;
+    compare(rt, -15, 0, 15, 0)?;
+    compare(rt, 15, 0, -15, 0)?;
+    compare(rt, 0, 18, 0, -18)?;
+    compare(rt, 9, 18, 9_000_000_000_000_000_001, 0)?;
+    compare(rt, 9, 18, 8_999_999_999_999_999_999, 0)?;
+    compare(rt, -9, 18, -9_000_000_000_000_000_000, 0)?;
+    compare(rt, LARGEST, 18, LARGEST, 18)?;
+    compare(rt, SMALLEST, 18, LARGEST, -18)?;
+    compare(rt, 1, 1, LARGEST, -18)?;
+    compare(rt, -1, 1, SMALLEST, -18)
 }
 
 // An exponent that is not taken on either side, whatever the digits.
-fn bad_exponents() {
-    compare(1, 19, 1, 0);
-    compare(1, 0, 1, -19);
-    compare(0, 19, 0, 19);
-    compare(1, 0x7FFF_FFFF, 1, 0);
-    compare(1, 0, 1, -0x8000_0000);
+fn bad_exponents(rt: &impl Print) -> io::Result<()> {
+    compare(rt, 1, 19, 1, 0)?;
+    compare(rt, 1, 0, 1, -19)?;
+    compare(rt, 0, 19, 0, 19)?;
+    compare(rt, 1, 0x7FFF_FFFF, 1, 0)?;
+    compare(rt, 1, 0, 1, -0x8000_0000)
 }
 
-pub(super) fn lines() {
-    message(false, 64);
-    message(true, 64);
-    message(true, 0);
-    avp(false, 64);
-    avp(true, 65);
-    header();
-    find(268);
-    find(263);
-    next(20);
-    next(21);
-    next(36);
-    writes();
-    shifts();
-    by_edition();
-    comparisons();
-    bad_exponents();
+pub(super) fn lines(rt: &impl Print) -> io::Result<()> {
+    message(rt, false, 64)?;
+    message(rt, true, 64)?;
+    message(rt, true, 0)?;
+    avp(rt, false, 64)?;
+    avp(rt, true, 65)?;
+    header(rt)?;
+    find(rt, 268)?;
+    find(rt, 263)?;
+    next(rt, 20)?;
+    next(rt, 21)?;
+    next(rt, 36)?;
+    writes(rt)?;
+    shifts(rt)?;
+    by_edition(rt)?;
+    comparisons(rt)?;
+    bad_exponents(rt)
 }

@@ -13,13 +13,15 @@ mod print;
 mod texts;
 mod types;
 
-fn main() {
-    codes::lines();
-    by_edition::lines();
-    types::lines();
-    bits::lines();
-    numbers::lines();
-    texts::lines();
-    library::lines();
-    packets::lines();
+use std::io;
+
+fn main(rt: HostRuntime) -> io::Result<()> {
+    codes::lines(&rt)?;
+    by_edition::lines(&rt)?;
+    types::lines(&rt)?;
+    bits::lines(&rt)?;
+    numbers::lines(&rt)?;
+    texts::lines(&rt)?;
+    library::lines(&rt)?;
+    packets::lines(&rt)
 }

@@ -3,9 +3,10 @@ use crate::print;
 use header::Header;
 use octets::at_hand::Available;
 use refusal::Refusal;
+use std::io;
 
 // How many bytes of AVPs a header that states so many bytes has.
-fn stated(length: u32) {
+fn stated(rt: &impl Print, length: u32) -> io::Result<()> {
     let h = Header {
         version: 1,
         length,
@@ -15,101 +16,101 @@ fn stated(length: u32) {
         hop_id: 0,
         end_id: 0,
     };
-    print::label(b"stated");
-    print::number(length as u64);
-    print::number(h.length() as u64);
-    print::end();
+    print::label(rt, b"stated")?;
+    print::number(rt, length as u64)?;
+    print::number(rt, h.length() as u64)?;
+    print::end(rt)
 }
 
-fn at_hand(length: usize, available: usize) {
-    print::label(b"length");
-    print::number(length as u64);
-    print::number(available as u64);
+fn at_hand(rt: &impl Print, length: usize, available: usize) -> io::Result<()> {
+    print::label(rt, b"length")?;
+    print::number(rt, length as u64)?;
+    print::number(rt, available as u64)?;
     match octets::at_hand::length(length, available) {
-        Available::Enough => print::word(b"enough"),
+        Available::Enough => print::word(rt, b"enough")?,
         Available::Absent(n) => {
-            print::word(b"absent");
-            print::number(n as u64);
+            print::word(rt, b"absent")?;
+            print::number(rt, n as u64)?;
         }
     }
-    print::end();
+    print::end(rt)
 }
 
 // An Enumerated, and a Time in Unix seconds, by the crate and by the library.
-fn signed(bits: u32) {
-    print::label(b"signed");
-    print::number(bits as u64);
-    print::signed(signed::signed_enumerated(bits));
-    print::signed(signed::unix_seconds(bits));
-    print::signed(tandrekily::tandrekily_unix_seconds(bits));
-    print::end();
+fn signed(rt: &impl Print, bits: u32) -> io::Result<()> {
+    print::label(rt, b"signed")?;
+    print::number(rt, bits as u64)?;
+    print::signed(rt, signed::signed_enumerated(bits))?;
+    print::signed(rt, signed::unix_seconds(bits))?;
+    print::signed(rt, tandrekily::tandrekily_unix_seconds(bits))?;
+    print::end(rt)
 }
 
 // By the library, which asks the crate.
-fn integer32(bits: u32) {
-    print::label(b"integer32");
-    print::number(bits as u64);
-    print::signed32(tandrekily::tandrekily_integer32(bits));
-    print::end();
+fn integer32(rt: &impl Print, bits: u32) -> io::Result<()> {
+    print::label(rt, b"integer32")?;
+    print::number(rt, bits as u64)?;
+    print::signed32(rt, tandrekily::tandrekily_integer32(bits))?;
+    print::end(rt)
 }
 
-fn integer64(bits: u64) {
-    print::label(b"integer64");
-    print::number(bits);
-    print::signed(tandrekily::tandrekily_integer64(bits));
-    print::end();
+fn integer64(rt: &impl Print, bits: u64) -> io::Result<()> {
+    print::label(rt, b"integer64")?;
+    print::number(rt, bits)?;
+    print::signed(rt, tandrekily::tandrekily_integer64(bits))?;
+    print::end(rt)
 }
 
 // The numbers at the ends of both halves.
-fn integers() {
-    integer32(0);
-    integer32(1);
-    integer32(0x7FFF_FFFF);
-    integer32(0x8000_0000);
-    integer32(0xFFFF_FFFF);
-    integer64(0);
-    integer64(1);
-    integer64(0x7FFF_FFFF_FFFF_FFFF);
-    integer64(0x8000_0000_0000_0000);
-    integer64(0xFFFF_FFFF_FFFF_FFFF);
+fn integers(rt: &impl Print) -> io::Result<()> {
+    integer32(rt, 0)?;
+    integer32(rt, 1)?;
+    integer32(rt, 0x7FFF_FFFF)?;
+    integer32(rt, 0x8000_0000)?;
+    integer32(rt, 0xFFFF_FFFF)?;
+    integer64(rt, 0)?;
+    integer64(rt, 1)?;
+    integer64(rt, 0x7FFF_FFFF_FFFF_FFFF)?;
+    integer64(rt, 0x8000_0000_0000_0000)?;
+    integer64(rt, 0xFFFF_FFFF_FFFF_FFFF)
 }
 
-fn refusal(why: Refusal) {
-    print::label(b"refusal");
-    print::number(why.number() as u64);
-    print::number(why.amount() as u64);
-    print::end();
+fn refusal(rt: &impl Print, why: Refusal) -> io::Result<()> {
+    print::label(rt, b"refusal")?;
+    print::number(rt, why.number() as u64)?;
+    print::number(rt, why.amount() as u64)?;
+    print::end(rt)
 }
 
 // In the order of docs/FORMAT.md, 7.1.
-fn refusals() {
-    refusal(Refusal::Incomplete(12));
-    refusal(Refusal::NotVersion);
-    refusal(Refusal::BadLength);
-    refusal(Refusal::NotTiled);
-    refusal(Refusal::TooDeep);
-    refusal(Refusal::NoRecords(12));
-    refusal(Refusal::BadDepth);
-    refusal(Refusal::BadHeader);
-    refusal(Refusal::BadTable(12));
-    refusal(Refusal::TooLong);
-    refusal(Refusal::NoRoom(12));
-    refusal(Refusal::BadEdition);
-    refusal(Refusal::BadExponent);
+fn refusals(rt: &impl Print) -> io::Result<()> {
+    refusal(rt, Refusal::Incomplete(12))?;
+    refusal(rt, Refusal::NotVersion)?;
+    refusal(rt, Refusal::BadLength)?;
+    refusal(rt, Refusal::NotTiled)?;
+    refusal(rt, Refusal::TooDeep)?;
+    refusal(rt, Refusal::NoRecords(12))?;
+    refusal(rt, Refusal::BadDepth)?;
+    refusal(rt, Refusal::BadHeader)?;
+    refusal(rt, Refusal::BadTable(12))?;
+    refusal(rt, Refusal::TooLong)?;
+    refusal(rt, Refusal::NoRoom(12))?;
+    refusal(rt, Refusal::BadEdition)?;
+    refusal(rt, Refusal::BadExponent)
 }
 
-pub(super) fn lines() {
-    stated(19);
-    stated(20);
-    stated(0xFF_FFFF);
-    at_hand(20, 8);
-    at_hand(20, 20);
-    signed(0);
-    signed(1);
-    signed(0x7FFF_FFFF);
-    signed(0x8000_0000);
-    signed(2_208_988_800);
-    signed(0xFFFF_FFFF);
-    integers();
-    refusals();
+pub(super) fn lines(rt: &impl Print) -> io::Result<()> {
+    stated(rt, 19)?;
+    stated(rt, 20)?;
+    stated(rt, 0xFF_FFFF)?;
+    at_hand(rt, 20, 8)?;
+    at_hand(rt, 20, 20)?;
+    signed(rt, 0)?;
+    signed(rt, 1)?;
+    signed(rt, 0x7FFF_FFFF)?;
+    signed(rt, 0x8000_0000)?;
+    signed(rt, 2_208_988_800)?;
+    signed(rt, 0xFFFF_FFFF)?;
+    integers(rt)?;
+    refusals(rt)
 }

@@ -1,85 +1,81 @@
 // Lines on standard output: a label, then words and numbers, each after a space.
 use results::{OUTLINE, RESULT, packets};
+use std::io;
 
-const OUT: i32 = 1;
-
-pub(super) fn label(name: &[u8]) {
-    io::write_all(OUT, name);
+pub(super) fn label(rt: &impl Print, name: &[u8]) -> io::Result<()> {
+    rt.write_all(name)
 }
 
-pub(super) fn word(w: &[u8]) {
-    io::write_all(OUT, b" ");
-    io::write_all(OUT, w);
+pub(super) fn word(rt: &impl Print, w: &[u8]) -> io::Result<()> {
+    rt.write_all(b" ")?;
+    rt.write_all(w)
 }
 
-pub(super) fn number(n: u64) {
-    io::write_all(OUT, b" ");
-    io::print_decimal(OUT, n);
+pub(super) fn number(rt: &impl Print, n: u64) -> io::Result<()> {
+    print!(rt; " {n}")
 }
 
-pub(super) fn bit(b: bool) {
-    if b {
-        number(1);
-    } else {
-        number(0);
-    }
+pub(super) fn bit(rt: &impl Print, b: bool) -> io::Result<()> {
+    if b { number(rt, 1) } else { number(rt, 0) }
 }
 
-pub(super) fn signed(n: i64) {
+pub(super) fn signed(rt: &impl Print, n: i64) -> io::Result<()> {
     if n < 0 {
-        io::write_all(OUT, b" -");
+        rt.write_all(b" -")?;
     } else {
-        io::write_all(OUT, b" ");
+        rt.write_all(b" ")?;
     }
-    io::print_decimal(OUT, signed::magnitude(n));
+    rt.print(signed::magnitude(n))
 }
 
-pub(super) fn signed32(n: i32) {
-    signed(n as i64);
+pub(super) fn signed32(rt: &impl Print, n: i32) -> io::Result<()> {
+    signed(rt, n as i64)
 }
 
-pub(super) fn result(all: &[u64; RESULT]) {
+pub(super) fn result(rt: &impl Print, all: &[u64; RESULT]) -> io::Result<()> {
     for i in 0..RESULT {
-        number(all[i]);
+        number(rt, all[i])?;
     }
+    Ok(())
 }
 
 // Its answer, whether an AVP is found, and that AVP's fields.
-pub(super) fn outline(all: &[u64; OUTLINE]) {
-    number(all[0]);
-    number(all[1]);
-    number(all[2]);
-    number(all[3]);
-    number(all[4]);
-    number(all[5]);
-    number(all[6]);
-    number(all[7]);
-    number(all[8]);
-    number(all[9]);
+pub(super) fn outline(rt: &impl Print, all: &[u64; OUTLINE]) -> io::Result<()> {
+    number(rt, all[0])?;
+    number(rt, all[1])?;
+    number(rt, all[2])?;
+    number(rt, all[3])?;
+    number(rt, all[4])?;
+    number(rt, all[5])?;
+    number(rt, all[6])?;
+    number(rt, all[7])?;
+    number(rt, all[8])?;
+    number(rt, all[9])
 }
 
 // Its answer, and what a packet has.
-pub(super) fn packet(all: &[u64; packets::RESULT]) {
-    number(all[0]);
-    number(all[1]);
-    number(all[2]);
-    number(all[3]);
-    number(all[4]);
-    number(all[5]);
-    number(all[6]);
-    number(all[7]);
+pub(super) fn packet(rt: &impl Print, all: &[u64; packets::RESULT]) -> io::Result<()> {
+    number(rt, all[0])?;
+    number(rt, all[1])?;
+    number(rt, all[2])?;
+    number(rt, all[3])?;
+    number(rt, all[4])?;
+    number(rt, all[5])?;
+    number(rt, all[6])?;
+    number(rt, all[7])
 }
 
 fn wide(x: u8) -> u64 {
     x as u64
 }
 
-pub(super) fn bytes(all: &[u8]) {
+pub(super) fn bytes(rt: &impl Print, all: &[u8]) -> io::Result<()> {
     for i in 0..all.len() {
-        number(wide(all[i]));
+        number(rt, wide(all[i]))?;
     }
+    Ok(())
 }
 
-pub(super) fn end() {
-    io::write_all(OUT, b"\n");
+pub(super) fn end(rt: &impl Print) -> io::Result<()> {
+    rt.write_all(b"\n")
 }

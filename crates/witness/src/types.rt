@@ -1,15 +1,17 @@
 // The kind of each type of attribute of RADIUS.
 use crate::print;
+use std::io;
 
-fn of_type(code: u8) {
-    print::label(b"radius");
-    print::number(code as u64);
-    print::number(radius_value::types::kind(code) as u64);
-    print::end();
+fn of_type(rt: &impl Print, code: u8) -> io::Result<()> {
+    print::label(rt, b"radius")?;
+    print::number(rt, code as u64)?;
+    print::number(rt, radius_value::types::kind(code) as u64)?;
+    print::end(rt)
 }
 
-pub(super) fn lines() {
+pub(super) fn lines(rt: &impl Print) -> io::Result<()> {
     for code in 0..=255u8 {
-        of_type(code);
+        of_type(rt, code)?;
     }
+    Ok(())
 }

@@ -1,0 +1,48 @@
+// RADIUS packets for C and Rust: read and written, over numbers and byte slices.
+ghost use Rattle.std.specs.Prelude.{◌≡◌};
+ghost use Rattle.results.specs.Packets.{packet_result};
+ghost use Rattle.tandrekily.specs.Packets.{packet_asked, packet_store, authenticator_after, write_result, write_output};
+
+use radius::Packet;
+use radius_writer::Fields;
+use results::packets::RESULT;
+
+/// Decodes the RADIUS packet at the front of `input` into records in `store`, and gives its authenticator.
+#[unsafe(no_mangle)]
+pub extern "C" fn tandrekily_radius(
+    input: &[u8],
+    store: &mut [u8],
+    authenticator: &mut [u8; Packet::AUTHENTICATOR],
+    res: &mut [u64; RESULT],
+)
+    ensures res { res.new ≡ packet_result (packet_asked store.old input.now) }
+    ensures authenticator { authenticator.new ≡ authenticator_after (packet_asked store.old input.now) authenticator.old }
+    ensures store { store.new ≡ packet_store store.old input.now }
+{
+    tandrekily::packets::tandrekily_radius(input, store, authenticator, res)
+}
+
+/// Writes the RADIUS packet of a table of records, whose data are in `pool`, to the front of `out`.
+#[unsafe(no_mangle)]
+pub extern "C" fn tandrekily_radius_write(
+    code: u8,
+    identifier: u8,
+    authenticator: &[u8; Fields::AUTHENTICATOR],
+    table: &[u8],
+    pool: &[u8],
+    out: &mut [u8],
+    res: &mut [u64; RESULT],
+)
+    ensures res { res.new ≡ write_result code identifier authenticator.now table.now pool.now out.old }
+    ensures out { out.new ≡ write_output code identifier authenticator.now table.now pool.now out.old }
+{
+    tandrekily::packets::tandrekily_radius_write(
+        code,
+        identifier,
+        authenticator,
+        table,
+        pool,
+        out,
+        res,
+    )
+}
