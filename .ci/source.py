@@ -69,7 +69,7 @@ def split(text, sign):
 
 def spellings(name):
     """The words by which a text may use a name: an operator is known by the signs in it."""
-    return {name, *filter(None, name.split("_"))}
+    return {name, *filter(None, name.split("◌"))}
 
 
 def proof_files(folder=PROMISES, node="Lib"):

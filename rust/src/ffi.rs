@@ -2,7 +2,7 @@
 //! `unsafe`.
 //! The library has two more, `tandrekily_integer32` and `tandrekily_integer64`, for which Rust has casts.
 //!
-//! The declarations are those of `crates/tandrekily/src/lib.rt`. What every call below relies on:
+//! The declarations are those of `crates/tandrekily_c/src`. What every call below relies on:
 //!
 //! - A slice is passed as two arguments, its pointer and its length. Both come from one Rust slice, so the bytes are there for the
 //!   whole call. The pointer of an empty slice points to nothing, and with a length of 0 nothing is read or written through it.
