@@ -12,8 +12,7 @@ use Rattle.rfc6733.proofs.Complete.{complete_whole, sizes, head}
 use Rattle.avp.specs.declared.AVP.{AVP}
 use Rattle.front.specs.Front.{avp_of}
 use Rattle.front.proofs.Fronts.{Here, here}
-use Rattle.avps.proofs.known.pads.Statement.{statement}
-use Rattle.avps.proofs.known.pads.Tie as tie
+use Rattle.avps.proofs.known.pads.Goals as goal
 
 -- the sizes of an AVP of which s is the bytes
 record Ends (s : List ℕ) (a : AVP) : Type 0 where
@@ -43,20 +42,27 @@ last_bytes s a w e bytes word =
     ∙ end_of_word s bytes n (omega arith) p e.few
     ∙ ap (λ (k : ℕ). be 3 (drop k s) 0) from
 
-returns : tie.Need-returns
+pub returns : goal.returns
 returns c =
-    let b = c.before.before.before.before in
-    last_bytes _ _ _ (ends _ _ b.requires) (λ i. omega (arith, c.before.before.before.shared-slice-known.given i)) c.word.ensures
+    last_bytes _ _ _ (ends _ _ c.requires) (λ i. omega (arith, c.shared_slice_known-1.given i)) c.word.ensures
 
-pub pads-spec : {M : Type 1} → statement M
-pads-spec =
-    tie.close
-    (tie.spec
-    (λ c. omega (arith, ends _ _ c.before.before.requires))
-    (λ c. omega (arith, ends _ _ c.before.before.before.requires))
-    (λ c κs. omega (arith, ends _ _ c.before.before.before.requires))
-    (λ c. omega (arith, ends _ _ c.before.before.before.before.requires))
-    (λ c. omega (arith, ends _ _ c.before.before.before.before.requires))
-    (λ c. omega (arith, ends _ _ c.before.before.before.before.requires))
-    (λ c. omega (arith, ends _ _ c.before.before.before.before.requires))
-    returns)
+pub overflow_sub-padding : goal.overflow_sub-padding
+overflow_sub-padding c = omega (arith, ends _ _ c.requires)
+
+pub overflow_sub-a : goal.overflow_sub-a
+overflow_sub-a c = omega (arith, ends _ _ c.requires)
+
+pub word-requires : goal.word-requires
+word-requires c = omega (arith, ends _ _ c.requires)
+
+pub overflow_cast-result : goal.overflow_cast-result
+overflow_cast-result c = omega (arith, ends _ _ c.requires)
+
+pub overflow_mul-result : goal.overflow_mul-result
+overflow_mul-result c = omega (arith, ends _ _ c.requires)
+
+pub overflow_sub-result : goal.overflow_sub-result
+overflow_sub-result c = omega (arith, ends _ _ c.requires)
+
+pub overflow_shl-result : goal.overflow_shl-result
+overflow_shl-result c = omega (arith, ends _ _ c.requires)
