@@ -8,11 +8,12 @@ use lib.ListN.{length, take, drop, set, length-append, length-take, length-drop}
 use lib.Seq.{drop-cons, set_at}
 use borrow.Rule.Slice.PartMut.{put_mid}
 use Rattle.octets.specs.Octets.{over, Put}
-use Rattle.octets.proofs.Lists.{rest, lent, copied, over_none, over_length, over_more}
+use Rattle.octets.proofs.Lists.{rest, lent, over_none, over_length, over_more}
 
-pub copy_put : {n : ℕ} {back : List ℕ} (text out : List ℕ) → n ≡ length text → back ≡ take (length text) text ++ drop (length text) out
-    → Put n text out back
-copy_put text out size copy = record { size_is = size; out_is = copy ∙ copied text out }
+-- bytes that were copied over the front
+pub front_put : {n : ℕ} {new : List ℕ} (text out : List ℕ) → n ≡ length text → new ≡ text → Put n text out (new ++ drop n out)
+unfolding over
+front_put text out size same = record { size_is = size; out_is = rw (same, size) }
 
 -- a byte more
 pub put_byte : {n : ℕ} {a before mid : List ℕ} (v : ℕ) → Put n a before mid → n < length before → Put (n + 1) (a ++ (v ∷ [])) before (set mid n v)

@@ -16,75 +16,75 @@ use Rattle.lines.proofs.Puts.{same_length, Passed, none_passed, all_passed, Read
 use Rattle.lines.proofs.put_records.Statement.{statement}
 use Rattle.lines.proofs.put_records.Tie as tie
 
-abbrev invariant-loop : tie.invariant-loop
+abbrev invariant-loop : tie.invariant-loop-i
 invariant-loop table records out₀ at₀ i₀ out at i =
     (i ≤ records) × Passed (records_text records table) (lines_from i records table) out₀ out at
 
-abbrev decreases-loop : tie.decreases-loop
+abbrev decreases-loop : tie.decreases-loop-i
 decreases-loop table records out₀ at₀ i₀ out at i = records - i
 
-abbrev start : tie.At-loop invariant-loop decreases-loop → tie.Start invariant-loop decreases-loop
+abbrev start : tie.At-loop-i invariant-loop decreases-loop → tie.Start invariant-loop decreases-loop
 start c = c.before.before.before
 
-abbrev table : tie.At-loop invariant-loop decreases-loop → List ℕ
+abbrev table : tie.At-loop-i invariant-loop decreases-loop → List ℕ
 table c = (start c).args.table.now
 
 -- the line of the next record
-abbrev piece : tie.At-loop invariant-loop decreases-loop → List ℕ
-piece c = line (record_line (record_at (drop (c.loop.i * record_size) (table c))))
+abbrev piece : tie.At-loop-i invariant-loop decreases-loop → List ℕ
+piece c = line (record_line (record_at (drop (c.loop-i.i * record_size) (table c))))
 
-next : (c : tie.In-loop invariant-loop decreases-loop)
+next : (c : tie.In-loop-i invariant-loop decreases-loop)
     → let l = c.before in
     let n = (start l).args.records in
-    Passed (records_text n (table l)) (piece l ++ lines_from (l.loop.i + 1) n (table l)) (start l).args.out.now l.loop.out l.loop.at
-next c = rw (lines_first c.before.loop.i (start c.before).args.records (table c.before) (omega arith)) at c.before.loop.invariant.1
+    Passed (records_text n (table l)) (piece l ++ lines_from (l.loop-i.i + 1) n (table l)) (start l).args.out.now l.loop-i.out l.loop-i.at
+next c = rw (lines_first c.loop-i.i (start c.before).args.records (table c.before) (omega arith)) at c.loop-i.invariant.1
 
 -- there is room for it
-room : (c : tie.In-loop invariant-loop decreases-loop) → let l = c.before in Ready (piece l) (start l).args.out.now l.loop.out l.loop.at
-room c = ready _ _ (next c) (start c.before).pre.fits
+room : (c : tie.In-loop-i invariant-loop decreases-loop) → let l = c.before in Ready (piece l) (start l).args.out.now l.loop-i.out l.loop-i.at
+room c = ready _ _ (next c) (start c.before).requires.fits
 
-loop-holds : tie.Need-loop-init invariant-loop decreases-loop
+loop-holds : tie.Need-loop-i-init invariant-loop decreases-loop
 loop-holds c =
     let b = c.before.before in
     let e : b.args.records - 0 ≡ b.args.records = omega arith in
     (omega arith, rw e (none_passed _ _))
 
 -- the table from the record on, as it is lent
-lent_table : (c : tie.In-loop invariant-loop decreases-loop)
+lent_table : (c : tie.In-loop-i invariant-loop decreases-loop)
     → let l = c.before in
-    let at = l.loop.i * record_size in
+    let at = l.loop-i.i * record_size in
     take (length (table l) - at) (drop at (table l)) ≡ drop at (table l)
-lent_table c = rest (table c.before) (c.before.loop.i * record_size) (omega (arith, (start c.before).pre.stored))
+lent_table c = rest (table c.before) (c.loop-i.i * record_size) (omega (arith, (start c.before).requires.stored))
 
 -- the line was put
-line_put : (c : tie.After-put-record invariant-loop decreases-loop)
+line_put : (c : tie.After-put_record-at invariant-loop decreases-loop)
     → let l = c.before.before.before.before in
-    let at = l.loop.at in
-    let out = l.loop.out in
-    Put c.put_record.result (piece l) (take (length out - at) (drop at out)) c.put_record.new.1.0
-line_put c = rw (lent_table c.before.before.before) at c.put_record.ensures
+    let at = l.loop-i.at in
+    let out = l.loop-i.out in
+    Put c.put_record-at.result (piece l) (take (length out - at) (drop at out)) c.put_record-at.new.out
+line_put c = rw (lent_table c.before.before.before) at c.put_record-at.ensures
 
-loop-again : tie.Need-loop-preserved invariant-loop decreases-loop
+loop-again : tie.Need-loop-i-preserved invariant-loop decreases-loop
 loop-again c =
     let t = c.before.before.before.before.before in
-    (omega arith, passed _ _ (next t) (start t.before).pre.fits (line_put c.before.before))
+    (omega arith, passed _ _ (next t) (start t.before).requires.fits (line_put c.before.before))
 
 returns : tie.Need-returns invariant-loop decreases-loop
 returns c =
     let b = start c.before in
-    let e : b.args.records - c.before.loop.i ≡ 0 = omega arith in
-    all_passed (rw e at c.before.loop.invariant.1)
+    let e : b.args.records - c.loop-i.i ≡ 0 = omega arith in
+    all_passed (rw e at c.loop-i.invariant.1)
 
-pub put-records-spec : {M : Type 1} → statement M
-put-records-spec =
+pub put_records_spec : {M : Type 1} → statement M
+put_records_spec =
     tie.close
     (tie.spec
     invariant-loop
     decreases-loop
     loop-holds
-    (λ c. omega (arith, (start c.before).pre.stored))
-    (λ c. omega (arith, (start c.before).pre.stored))
-    (λ c. omega (arith, (start c.before).pre.stored))
+    (λ c. omega (arith, (start c.before).requires.stored))
+    (λ c. omega (arith, (start c.before).requires.stored))
+    (λ c. omega (arith, (start c.before).requires.stored))
     (λ c. search rules)
     (λ c. omega (arith, room c.before))
     (λ c. omega (arith, room c.before))
@@ -94,5 +94,5 @@ put-records-spec =
     (λ c. search rules)
     (λ c. omega arith)
     loop-again
-    (λ c. same_length (returns c) (start c.before).pre.fits)
+    (λ c. same_length (returns c) (start c.before).requires.fits)
     returns)
