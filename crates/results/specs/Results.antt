@@ -12,8 +12,8 @@ use Rattle.unit_value.specs.declared.Ordering.{Ordering}
 use Rattle.unit_value.specs.declared.Ordering.TheVariants.{Less, Equal, Greater}
 
 -- number, amount; error flags, records, tried, length; the header's fields
-abbrev pub result : ℕ → ℕ → Counts → Header → List ℕ
-result n a c h = n ∷ a ∷ c.errors ∷ c.records ∷ c.tried ∷ c.length ∷ header_layout.numbers h
+abbrev pub result_of : ℕ → ℕ → Counts → Header → List ℕ
+result_of n a c h = n ∷ a ∷ c.errors ∷ c.records ∷ c.tried ∷ c.length ∷ header_layout.numbers h
 
 -- so many bytes, and nothing else
 abbrev pub bytes_alone : ℕ → Counts
@@ -27,26 +27,26 @@ abbrev pub no_header : Header
 no_header = record { version = 0; length = 0; flags = 0; code = 0; app_id = 0; hop_id = 0; end_id = 0 }
 
 abbrev pub refusal : Refusal → List ℕ
-refusal why = result (number_of why) (amount_of why) (bytes_alone 0) no_header
+refusal why = result_of (number_of why) (amount_of why) (bytes_alone 0) no_header
 
 -- a message, or the header alone
 unfoldable pub message_result : Answer Message → List ℕ
-message_result (accepted m) = result 0 0 m.counts m.header
+message_result (accepted m) = result_of 0 0 m.counts m.header
 message_result (refused why) = refusal why
 
 -- one AVP alone
 unfoldable pub avp_result : Answer Counts → List ℕ
-avp_result (accepted c) = result 0 0 c no_header
+avp_result (accepted c) = result_of 0 0 c no_header
 avp_result (refused why) = refusal why
 
 -- what the writer wrote: its total is the length
 unfoldable pub written_result : Answer ℕ → List ℕ
-written_result (accepted total) = result 0 0 (bytes_alone total) no_header
+written_result (accepted total) = result_of 0 0 (bytes_alone total) no_header
 written_result (refused why) = refusal why
 
 -- a table that was moved: its records
 unfoldable pub shifted_result : Answer ℕ → List ℕ
-shifted_result (accepted records) = result 0 0 (records_alone records) no_header
+shifted_result (accepted records) = result_of 0 0 (records_alone records) no_header
 shifted_result (refused why) = refusal why
 
 -- ---- an outline

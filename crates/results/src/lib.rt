@@ -13,7 +13,7 @@ ghost use Rattle.diameter.specs.Answers.{answer_of};
 ghost use Rattle.steps.specs.Steps as steps;
 ghost use Rattle.record.specs.Written as written;
 ghost use Rattle.rules.specs.Shifting as shifting;
-ghost use Rattle.results.specs.Results.{result, refusal, message_result, avp_result, written_result, shifted_result, outline_result, found_result, sign_of};
+ghost use Rattle.results.specs.Results.{result_of, refusal, message_result, avp_result, written_result, shifted_result, outline_result, found_result, sign_of};
 
 use avps::{Counts, Filled};
 use diameter::Decoded;
@@ -59,7 +59,7 @@ const NO_OUTLINE: Outline = Outline {
 };
 
 fn lay(number: u64, amount: usize, counts: Counts, header: Header) -> [u64; RESULT]
-    ensures* { λ r. ⌜ r ≡ result number amount (counts_as counts) (header_as header) ⌝ }
+    ensures { result ≡ result_of number amount (counts_as counts) (header_as header) }
 {
     [
         number,
@@ -79,14 +79,14 @@ fn lay(number: u64, amount: usize, counts: Counts, header: Header) -> [u64; RESU
 }
 
 fn refused(why: Refusal) -> [u64; RESULT]
-    ensures* { λ r. ⌜ r ≡ refusal why ⌝ }
+    ensures { result ≡ refusal why }
 {
     lay(why.number() as u64, why.amount(), NO_COUNTS, NO_HEADER)
 }
 
 /// What decoding a message answers.
 pub fn of_message(d: Decoded) -> [u64; RESULT]
-    ensures* { λ r. ⌜ r ≡ message_result (answer_of d) ⌝ }
+    ensures { result ≡ message_result (answer_of d) }
 {
     match d {
         Decoded::Accepted(m) => {
@@ -105,7 +105,7 @@ pub fn of_message(d: Decoded) -> [u64; RESULT]
 
 /// What reading the header alone answers.
 pub fn of_header(p: Parsed) -> [u64; RESULT]
-    ensures* { λ r. ⌜ r ≡ message_result (header.answer_of p) ⌝ }
+    ensures { result ≡ message_result (header.answer_of p) }
 {
     match p {
         Parsed::Accepted { header, errors } => {
@@ -123,7 +123,7 @@ pub fn of_header(p: Parsed) -> [u64; RESULT]
 
 /// What decoding one AVP alone answers.
 pub fn of_avp(d: Filled) -> [u64; RESULT]
-    ensures* { λ r. ⌜ r ≡ avp_result (avps.answer_of d) ⌝ }
+    ensures { result ≡ avp_result (avps.answer_of d) }
 {
     match d {
         Filled::Accepted(counts) => lay(0, 0, counts, NO_HEADER),
@@ -133,7 +133,7 @@ pub fn of_avp(d: Filled) -> [u64; RESULT]
 
 /// What writing a message answers: its total is the length.
 pub fn of_written(w: Written) -> [u64; RESULT]
-    ensures* { λ r. ⌜ r ≡ written_result (written.answer_of w) ⌝ }
+    ensures { result ≡ written_result (written.answer_of w) }
 {
     match w {
         Written::Accepted(total) => {
@@ -151,7 +151,7 @@ pub fn of_written(w: Written) -> [u64; RESULT]
 
 /// What moving a table answers: its records.
 pub fn of_shifted(s: Shifted) -> [u64; RESULT]
-    ensures* { λ r. ⌜ r ≡ shifted_result (shifting.answer_of s) ⌝ }
+    ensures { result ≡ shifted_result (shifting.answer_of s) }
 {
     match s {
         Shifted::Accepted(records) => {
@@ -168,7 +168,7 @@ pub fn of_shifted(s: Shifted) -> [u64; RESULT]
 }
 
 fn lay_outline(number: u64, amount: usize, found: u64, o: Outline) -> [u64; OUTLINE]
-    ensures* { λ r. ⌜ r ≡ outline_result number amount found o ⌝ }
+    ensures { result ≡ outline_result number amount found o }
 {
     [
         number,
@@ -186,7 +186,7 @@ fn lay_outline(number: u64, amount: usize, found: u64, o: Outline) -> [u64; OUTL
 
 /// What a search or a step answers.
 pub fn of_found(f: Found) -> [u64; OUTLINE]
-    ensures* { λ r. ⌜ r ≡ found_result (steps.answer_of f) ⌝ }
+    ensures { result ≡ found_result (steps.answer_of f) }
 {
     match f {
         Found::At(o) => lay_outline(0, 0, 1, o),
@@ -197,7 +197,7 @@ pub fn of_found(f: Found) -> [u64; OUTLINE]
 
 /// How one Unit-Value stands to another: less is -1, equal 0, greater 1.
 pub fn sign_of(o: Ordering) -> i32
-    ensures* { λ r. ⌜ r ≡ sign_of o ⌝ }
+    ensures { result ≡ sign_of o }
 {
     match o {
         Ordering::Less => -1,

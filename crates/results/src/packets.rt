@@ -1,7 +1,7 @@
 // The answers of RADIUS as numbers.
 ghost use Rattle.std.specs.Prelude.{◌≡◌};
 ghost use Rattle.record.specs.Written.{answer_of};
-ghost use Rattle.results.specs.Packets.{result, counts_of, refusal, written_result};
+ghost use Rattle.results.specs.Packets.{result_of, counts_of, refusal, written_result};
 
 use radius::Packet;
 use record::written::Written;
@@ -21,7 +21,7 @@ const NO_PACKET: Packet = Packet {
 
 /// An answer's number and amount, and behind them a packet's numbers.
 pub fn lay(number: u64, amount: usize, p: Packet) -> [u64; RESULT]
-    ensures* { λ r. ⌜ r ≡ result number amount (counts_of p) p.code p.identifier ⌝ }
+    ensures { result ≡ result_of number amount (counts_of p) p.code p.identifier }
 {
     [
         number,
@@ -37,14 +37,14 @@ pub fn lay(number: u64, amount: usize, p: Packet) -> [u64; RESULT]
 
 /// The refusal of a packet.
 pub fn refused(why: Refusal) -> [u64; RESULT]
-    ensures* { λ r. ⌜ r ≡ refusal why ⌝ }
+    ensures { result ≡ refusal why }
 {
     lay(why.number() as u64, why.amount(), NO_PACKET)
 }
 
 /// What writing a packet answers: its total is the length.
 pub fn of_written(w: Written) -> [u64; RESULT]
-    ensures* { λ r. ⌜ r ≡ written_result (answer_of w) ⌝ }
+    ensures { result ≡ written_result (answer_of w) }
 {
     match w {
         Written::Accepted(total) => {
