@@ -36,7 +36,7 @@ use Rattle.avps.specs.Answers as avps
 use Rattle.diameter.specs.declared.Message.{Message}
 use Rattle.diameter.specs.declared.Decoded.TheVariants as decoder
 use Rattle.diameter.specs.Answers.{answer_of, message_as}
-use Rattle.promises.proofs.OneOutcome.Calls.{Slice, Check, IsUtf8, TandrekilyUtf8}
+use Rattle.promises.proofs.OneOutcome.Calls.{Slice, MutSlice, Check, IsUtf8, TandrekilyUtf8}
 use Rattle.promises.proofs.Ways.{Way, dictionary_of, Decode, accepts, DecodeAlone, accepts_alone, lawful, address_small, address_silent}
 use Rattle.promises.proofs.RoundTrip.{left}
 
@@ -69,7 +69,7 @@ utf8_exactly κs text r n p =
 -- ---- the records
 
 -- a decoder accepted m and left its records in store'. `Bytes` is asked as in RoundTrip
-pub each_tells_break : (way : Way) (κs : Lfts 2) (limit : ℕ) (input store : Slice) (m : Message) (store' : Slice)
+pub each_tells_break : (way : Way) (κs : Lfts 2) (limit : ℕ) (input : Slice) (store : MutSlice) (m : Message) (store' : MutSlice)
     → Decode way κs limit input store (decoder.Accepted m) store' → Bytes input.now
     → Every (TellsBreak (dictionary_of way) input.now) (whole_records m.records store'.now)
 unfolding answer_of stored message_records message_body
@@ -84,7 +84,7 @@ each_tells_break way κs limit input store m store' p bytes =
     (every_tells D (address_silent way) s bytes (message_body s) header_size (holds_here s header_size (message_length s - header_size)))
 
 -- the same of one AVP alone
-pub each_tells_alone : (way : Way) (κs : Lfts 2) (limit : ℕ) (input store : Slice) (c : Counts) (store' : Slice)
+pub each_tells_alone : (way : Way) (κs : Lfts 2) (limit : ℕ) (input : Slice) (store : MutSlice) (c : Counts) (store' : MutSlice)
     → DecodeAlone way κs limit input store (filled.Accepted c) store' → Bytes input.now
     → Every (TellsBreak (dictionary_of way) input.now) (whole_records c.records store'.now)
 unfolding avps.answer_of avps.counts_as stored alone_of run_counts alone_records item

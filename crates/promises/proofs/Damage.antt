@@ -24,7 +24,7 @@ use Rattle.diameter.specs.declared.Decoded.{Decoded}
 use Rattle.diameter.specs.declared.Decoded.TheVariants.{Accepted}
 use Rattle.diameter.specs.Answers.{answer_of, message_as}
 use Rattle.diameter.proofs.AnswerOf.{answer_of_injective}
-use Rattle.promises.proofs.OneOutcome.Calls.{Slice}
+use Rattle.promises.proofs.OneOutcome.Calls.{Slice, MutSlice}
 use Rattle.promises.proofs.Ways.{Way, dictionary_of, Decode, Decodes, decodes, accepts}
 use Rattle.promises.proofs.Tables.{records_read, known_way}
 
@@ -45,7 +45,7 @@ again : (way : Way) (limit : ℕ) (input store : List ℕ) (m : Message) (errors
 again way limit input store m errors d store' says e bytes =
     records_read way limit input store (with_errors m errors) store' (rw e at says) bytes
 
-pub damage_stays_in : (way : Way) (κs : Lfts 2) (limit : ℕ) (input store : Slice) (m : Message) (store' : Slice)
+pub damage_stays_in : (way : Way) (κs : Lfts 2) (limit : ℕ) (input : Slice) (store : MutSlice) (m : Message) (store' : MutSlice)
     (λs : Lfts 2) (damaged other : Slice) (d : Decoded) (other' : Slice)
     → Decode way κs limit input store (Accepted m) store' → Decode way λs limit damaged other d other'
     → Bytes input.now → Bytes damaged.now → room other.now ≡ room store.now

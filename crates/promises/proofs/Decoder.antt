@@ -17,11 +17,11 @@ use Rattle.diameter.specs.declared.Message.{Message}
 use Rattle.diameter.specs.declared.Decoded.{Decoded}
 use Rattle.diameter.specs.declared.Decoded.TheVariants.{Accepted}
 use Rattle.diameter.specs.Answers.{answer_of, message_as}
-use Rattle.promises.proofs.OneOutcome.Calls.{Slice}
+use Rattle.promises.proofs.OneOutcome.Calls.{Slice, MutSlice}
 use Rattle.promises.proofs.Ways.{Way, reading, edition, dictionary_of, Known, Decode, decodes, accepts}
 use Rattle.promises.proofs.Acceptance.{accepted_as}
 
-pub tried_of_the_decoder : (way : Way) (κs : Lfts 2) (limit : ℕ) (input store : Slice) (m : Message) (store' : Slice)
+pub tried_of_the_decoder : (way : Way) (κs : Lfts 2) (limit : ℕ) (input : Slice) (store : MutSlice) (m : Message) (store' : MutSlice)
     → Decode way κs limit input store (Accepted m) store' → 6 * m.tried ≤ m.length - 20
 unfolding answer_of message_as
 tried_of_the_decoder way κs limit input store m store' p =
@@ -42,7 +42,7 @@ pub record AtTheBound (k : ℕ) (r : Decoded) : Type 0 where
   pub length_is : message.length ≡ 20 + 12 * k
   pub tried_is : 6 * message.tried ≡ message.length - 20
 
-pub bound_is_reached : (way : Way) (κs : Lfts 2) (limit k : ℕ) (input store : Slice) (r : Decoded) (store' : Slice)
+pub bound_is_reached : (way : Way) (κs : Lfts 2) (limit k : ℕ) (input : Slice) (store : MutSlice) (r : Decoded) (store' : MutSlice)
     → Known way → Decode way κs limit input store r store' → input.now ≡ extremal k
     → 2 ≤ limit → limit ≤ 64 → k ≤ capacity (length store.now) → 20 + 12 * k ≤ most24
     → AtTheBound k r

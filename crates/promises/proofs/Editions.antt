@@ -23,7 +23,7 @@ use Rattle.diameter.specs.declared.Decoded.TheVariants as diameter
 use Rattle.diameter.specs.Answers as diameter_answers
 use Rattle.editions.specs.Editions.{no_edition}
 use Rattle.diameter.proofs.AnswerOf as diameter_answer_of
-use Rattle.promises.proofs.OneOutcome.Calls.{Slice, Parse, ParseAvp, ParseBy, ParseAvpBy}
+use Rattle.promises.proofs.OneOutcome.Calls.{Slice, MutSlice, Parse, ParseAvp, ParseBy, ParseAvpBy}
 
 -- the limit is allowed, and the number is no edition
 abbrev pub NoEdition : ℕ → ℕ → Type 0
@@ -32,7 +32,7 @@ NoEdition limit n = (allowed limit ≡ true) × (is_edition n ≡ false)
 bad_edition : {A : Type 0} (limit : ℕ) → allowed limit ≡ true → ◌≡◌ {A = Answer A} (refused (no_edition limit)) (refused BadEdition)
 bad_edition limit ok = rw ok
 
-pub parse_by_bad_edition : (κs : Lfts 2) (n limit : ℕ) (input store : Slice) (r : Decoded) (store' : Slice)
+pub parse_by_bad_edition : (κs : Lfts 2) (n limit : ℕ) (input : Slice) (store : MutSlice) (r : Decoded) (store' : MutSlice)
     → ParseBy κs n limit input store r store' → (r ≡ diameter.Refused BadEdition) ↔ NoEdition limit n
 unfolding diameter_answers.answer_of
 parse_by_bad_edition κs n limit input store r store' p = (
@@ -40,7 +40,7 @@ parse_by_bad_edition κs n limit input store r store' p = (
   λ h. diameter_answer_of.answer_of_injective r (diameter.Refused BadEdition) (p.0 ∙ sym (message_by_none n limit _ input.now h.1) ∙ bad_edition limit h.0),
 )
 
-pub parse_avp_by_bad_edition : (κs : Lfts 2) (n limit : ℕ) (input store : Slice) (r : Filled) (store' : Slice)
+pub parse_avp_by_bad_edition : (κs : Lfts 2) (n limit : ℕ) (input : Slice) (store : MutSlice) (r : Filled) (store' : MutSlice)
     → ParseAvpBy κs n limit input store r store' → (r ≡ avps.Refused BadEdition) ↔ NoEdition limit n
 unfolding avps_answers.answer_of
 parse_avp_by_bad_edition κs n limit input store r store' p = (
@@ -50,22 +50,22 @@ parse_avp_by_bad_edition κs n limit input store r store' p = (
 
 -- ---- by which numbers
 
-pub parse_numbers : (κs : Lfts 2) (reading : Reading) (limit : ℕ) (input store : Slice) (why : Refusal) (store' : Slice)
+pub parse_numbers : (κs : Lfts 2) (reading : Reading) (limit : ℕ) (input : Slice) (store : MutSlice) (why : Refusal) (store' : MutSlice)
     → Parse κs reading limit input store (diameter.Refused why) store' → number_of why ≤ 7
 unfolding diameter_answers.answer_of
 parse_numbers κs reading limit input store why store' p = message_numbers _ limit _ input.now why (sym p.0)
 
-pub parse_avp_numbers : (κs : Lfts 2) (reading : Reading) (limit : ℕ) (input store : Slice) (why : Refusal) (store' : Slice)
+pub parse_avp_numbers : (κs : Lfts 2) (reading : Reading) (limit : ℕ) (input : Slice) (store : MutSlice) (why : Refusal) (store' : MutSlice)
     → ParseAvp κs reading limit input store (avps.Refused why) store' → number_of why ≤ 7
 unfolding avps_answers.answer_of
 parse_avp_numbers κs reading limit input store why store' p = alone_numbers _ limit _ input.now why (sym p.0)
 
-pub parse_by_numbers : (κs : Lfts 2) (n limit : ℕ) (input store : Slice) (why : Refusal) (store' : Slice)
+pub parse_by_numbers : (κs : Lfts 2) (n limit : ℕ) (input : Slice) (store : MutSlice) (why : Refusal) (store' : MutSlice)
     → ParseBy κs n limit input store (diameter.Refused why) store' → number_of why ≤ 12
 unfolding diameter_answers.answer_of
 parse_by_numbers κs n limit input store why store' p = message_by_numbers n limit _ input.now why (sym p.0)
 
-pub parse_avp_by_numbers : (κs : Lfts 2) (n limit : ℕ) (input store : Slice) (why : Refusal) (store' : Slice)
+pub parse_avp_by_numbers : (κs : Lfts 2) (n limit : ℕ) (input : Slice) (store : MutSlice) (why : Refusal) (store' : MutSlice)
     → ParseAvpBy κs n limit input store (avps.Refused why) store' → number_of why ≤ 12
 unfolding avps_answers.answer_of
 parse_avp_by_numbers κs n limit input store why store' p = alone_by_numbers n limit _ input.now why (sym p.0)

@@ -42,7 +42,7 @@ use Rattle.steps.specs.declared.Found.{Found}
 use Rattle.steps.specs.declared.Found.TheVariants.{At, None, Refused}
 use Rattle.steps.specs.Steps as steps
 use Rattle.steps.proofs.AnswerOf.{outcome_back, outcome_is_back}
-use Rattle.promises.proofs.OneOutcome.Calls.{Slice, Find}
+use Rattle.promises.proofs.OneOutcome.Calls.{Slice, MutSlice, Find}
 use Rattle.promises.proofs.Ways.{Way, dictionary_of, Known, Decode, decodes, accepts, refuses, lawful}
 use Rattle.promises.proofs.RoundTrip.{left}
 
@@ -67,7 +67,7 @@ shown_back none = refl
 shown_back (some o) = refl
 
 -- a decoder accepted m, whose records stand at the front of store'; `find` answered r of the same bytes. `Bytes` is asked as in RoundTrip
-pub found_in_the_table : (way : Way) (κs : Lfts 2) (limit : ℕ) (input store : Slice) (m : Message) (store' : Slice)
+pub found_in_the_table : (way : Way) (κs : Lfts 2) (limit : ℕ) (input : Slice) (store : MutSlice) (m : Message) (store' : MutSlice)
     (λs : Lfts 1) (code : ℕ) (r : Found)
     → Decode way κs limit input store (decoder.Accepted m) store' → Find λs input code r → Bytes input.now
     → r ≡ first_in code (table_of (take (m.records * record_size) store'.now))
@@ -117,7 +117,7 @@ unfolding steps.answer_of
 found_outline o x e = cc
 
 -- what was found stands in the store
-pub found_bytes_in_the_store : (way : Way) (κs : Lfts 2) (limit : ℕ) (input store : Slice) (m : Message) (store' : Slice)
+pub found_bytes_in_the_store : (way : Way) (κs : Lfts 2) (limit : ℕ) (input : Slice) (store : MutSlice) (m : Message) (store' : MutSlice)
     (λs : Lfts 1) (code : ℕ) (o : Outline)
     → Decode way κs limit input store (decoder.Accepted m) store' → Find λs input code (At o)
     → InTheStore code (message_records (dictionary_of way) input.now) m.records store'.now o
@@ -159,7 +159,7 @@ failing_back none = refl
 failing_back (some o) = refl
 
 -- a decoder refused the bytes since they do not tile; `find` answered r
-pub found_before_the_failing_place : (way : Way) (κs : Lfts 2) (limit : ℕ) (input store store' : Slice) (λs : Lfts 1) (code : ℕ) (r : Found)
+pub found_before_the_failing_place : (way : Way) (κs : Lfts 2) (limit : ℕ) (input : Slice) (store store' : MutSlice) (λs : Lfts 1) (code : ℕ) (r : Found)
     → Decode way κs limit input store (decoder.Refused NotTiled) store' → Find λs input code r
     → r ≡ shown_failing (first_with code (outlines header_size (tree unentered (message_body input.now))))
 unfolding answer_of
@@ -170,7 +170,7 @@ found_before_the_failing_place way κs limit input store store' λs code r p q =
     sym (outcome_is_back r) ∙ ap outcome_back (q ∙ sought_failing code s (dictionary_of way) limit _ (sym says.answer_is)) ∙ failing_back found
 
 -- `find` refused the bytes, and a decoder was asked with a limit that is allowed
-pub refused_by_both : (way : Way) (κs : Lfts 2) (limit : ℕ) (input store : Slice) (r : Decoded) (store' : Slice)
+pub refused_by_both : (way : Way) (κs : Lfts 2) (limit : ℕ) (input : Slice) (store : MutSlice) (r : Decoded) (store' : MutSlice)
     (λs : Lfts 1) (code : ℕ) (why : Refusal)
     → Known way → Decode way κs limit input store r store' → Find λs input code (Refused why) → 1 ≤ limit → limit ≤ 64
     → r ≡ decoder.Refused why

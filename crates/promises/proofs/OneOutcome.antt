@@ -15,7 +15,7 @@ use Rattle.record.specs.Record.{Record}
 use Rattle.reader.specs.declared.Reader.{Reader}
 use Rattle.writer.specs.declared.Fields.{Fields}
 use Rattle.radius_writer.specs.declared.Fields as packet
-use Rattle.promises.proofs.OneOutcome.Calls.{Slice, PutWord, PutLong, Copy, PutPadding, PutHeader, PutHead, RecordPut, PutFound, PutPlaceAndParent, Clear, ParseAvps, Parse, ParseAvp, ParseBy, ParseAvpBy, Dump, Write, Shift, TandrekilyMessage, TandrekilyHeader, TandrekilyAvp, TandrekilyMessageBy, TandrekilyAvpBy, TandrekilyFind, TandrekilyNext, TandrekilyWrite, TandrekilyShift, TandrekilyCompare, ParseAttributes, ParsePacket, WritePacket, TandrekilyRadius, TandrekilyRadiusWrite}
+use Rattle.promises.proofs.OneOutcome.Calls.{Slice, MutSlice, PutWord, PutLong, Copy, PutPadding, PutHeader, PutHead, RecordPut, PutFound, PutPlaceAndParent, Clear, ParseAvps, Parse, ParseAvp, ParseBy, ParseAvpBy, Dump, Write, Shift, TandrekilyMessage, TandrekilyHeader, TandrekilyAvp, TandrekilyMessageBy, TandrekilyAvpBy, TandrekilyFind, TandrekilyNext, TandrekilyWrite, TandrekilyShift, TandrekilyCompare, ParseAttributes, ParsePacket, WritePacket, TandrekilyRadius, TandrekilyRadiusWrite}
 use Rattle.promises.proofs.OneOutcome.ByHand.{ReaderNew, ReaderNext, ReaderFind}
 use Rattle.octets.proofs.be_u16.Reads as be_u16
 use Rattle.octets.proofs.be_u24.Reads as be_u24
@@ -141,7 +141,7 @@ Settled {R = R} {A = A} Call = (r r' : R) (after after' : Bor A) → Call r afte
 -- The library answers by a slice too: what each of the two holds afterwards is the same.
 abbrev BothSettled : (Slice → Slice → Type 0) → Type 0
 BothSettled Call =
-    (after after' result result' : Slice) → Call after result → Call after' result' → (after.now ≡ after'.now) × (result.now ≡ result'.now)
+    (after after' result result' : MutSlice) → Call after result → Call after' result' → (after.now ≡ after'.now) × (result.now ≡ result'.now)
 
 -- ---- octets
 
@@ -180,10 +180,10 @@ word_be_u32_one κs a r r' s p q = p ∙ sym q
 word_be_u64_one : Single word_be_u64.Post
 word_be_u64_one κs a r r' s p q = p ∙ sym q
 
-put_word_one : (κs : Lfts 1) (out : Slice) (v : ℕ) (after after' : Slice) → PutWord κs out v after → PutWord κs out v after' → after.now ≡ after'.now
+put_word_one : (κs : Lfts 1) (out : MutSlice) (v : ℕ) (after after' : MutSlice) → PutWord κs out v after → PutWord κs out v after' → after.now ≡ after'.now
 put_word_one κs out v after after' p q = p ∙ sym q
 
-put_long_one : (κs : Lfts 1) (out : Slice) (v : ℕ) (after after' : Slice) → PutLong κs out v after → PutLong κs out v after' → after.now ≡ after'.now
+put_long_one : (κs : Lfts 1) (out : MutSlice) (v : ℕ) (after after' : MutSlice) → PutLong κs out v after → PutLong κs out v after' → after.now ≡ after'.now
 put_long_one κs out v after after' p q = p ∙ sym q
 
 -- ---- rfc3629, ascii and utf8
@@ -378,18 +378,18 @@ find_one κs a r r' s p q = steps_answers.answer_of_injective r r' (p ∙ sym q)
 
 -- ---- record
 
-record_put_one : (κs : Lfts 1) (self : Record) (store : Slice) → Settled (RecordPut κs self store)
+record_put_one : (κs : Lfts 1) (self : Record) (store : MutSlice) → Settled (RecordPut κs self store)
 record_put_one κs self store r r' after after' p q = (p.0 ∙ sym q.0, p.1 ∙ sym q.1)
 
-put_found_one : (κs : Lfts 1) (store : Slice) (kind errors value : ℕ) (after after' : Slice) → PutFound κs store kind errors value after
+put_found_one : (κs : Lfts 1) (store : MutSlice) (kind errors value : ℕ) (after after' : MutSlice) → PutFound κs store kind errors value after
     → PutFound κs store kind errors value after' → after.now ≡ after'.now
 put_found_one κs store kind errors value after after' p q = p ∙ sym q
 
-put_place_and_parent_one : (κs : Lfts 1) (table : Slice) (place parent : ℕ) (after after' : Slice)
+put_place_and_parent_one : (κs : Lfts 1) (table : Slice) (place parent : ℕ) (after after' : MutSlice)
     → PutPlaceAndParent κs table place parent after → PutPlaceAndParent κs table place parent after' → after.now ≡ after'.now
 put_place_and_parent_one κs table place parent after after' p q = p ∙ sym q
 
-clear_one : (κs : Lfts 1) (store after after' : Slice) → Clear κs store after → Clear κs store after' → after.now ≡ after'.now
+clear_one : (κs : Lfts 1) (store after after' : MutSlice) → Clear κs store after → Clear κs store after' → after.now ≡ after'.now
 clear_one κs store after after' p q = p ∙ sym q
 
 record_get_one : Single record_get.Post
@@ -438,7 +438,7 @@ count_fitting_one κs a r r' s p q = count_answers.answer_of_injective r r' (p �
 
 -- ---- avps
 
-parse_avps_one : (κs : Lfts 3) (d : Dictionary) (kinds : Slice) (limit : ℕ) (s : Slice) (place : ℕ) (store : Slice)
+parse_avps_one : (κs : Lfts 3) (d : Dictionary) (kinds : Slice) (limit : ℕ) (s : Slice) (place : ℕ) (store : MutSlice)
     → Settled (ParseAvps κs d kinds limit s place store)
 parse_avps_one κs d kinds limit s place store r r' after after' p q =
     let e = avps_answers.answer_of_injective r r' (p.0 ∙ sym q.0) in
@@ -448,28 +448,28 @@ parse_avps_one κs d kinds limit s place store r r' after after' p q =
 
 -- ---- diameter
 
-parse_one : (κs : Lfts 2) (reading : Reading) (limit : ℕ) (input store : Slice) → Settled (Parse κs reading limit input store)
+parse_one : (κs : Lfts 2) (reading : Reading) (limit : ℕ) (input : Slice) (store : MutSlice) → Settled (Parse κs reading limit input store)
 parse_one κs reading limit input store r r' after after' p q =
     let e = diameter_answers.answer_of_injective r r' (p.0 ∙ sym q.0) in
     let at_exit = p.1 in
     let at_exit' = q.1 in
     (e, cc)
 
-parse_avp_one : (κs : Lfts 2) (reading : Reading) (limit : ℕ) (input store : Slice) → Settled (ParseAvp κs reading limit input store)
+parse_avp_one : (κs : Lfts 2) (reading : Reading) (limit : ℕ) (input : Slice) (store : MutSlice) → Settled (ParseAvp κs reading limit input store)
 parse_avp_one κs reading limit input store r r' after after' p q =
     let e = avps_answers.answer_of_injective r r' (p.0 ∙ sym q.0) in
     let at_exit = p.1 in
     let at_exit' = q.1 in
     (e, cc)
 
-parse_by_one : (κs : Lfts 2) (edition limit : ℕ) (input store : Slice) → Settled (ParseBy κs edition limit input store)
+parse_by_one : (κs : Lfts 2) (edition limit : ℕ) (input : Slice) (store : MutSlice) → Settled (ParseBy κs edition limit input store)
 parse_by_one κs edition limit input store r r' after after' p q =
     let e = diameter_answers.answer_of_injective r r' (p.0 ∙ sym q.0) in
     let at_exit = p.1 in
     let at_exit' = q.1 in
     (e, cc)
 
-parse_avp_by_one : (κs : Lfts 2) (edition limit : ℕ) (input store : Slice) → Settled (ParseAvpBy κs edition limit input store)
+parse_avp_by_one : (κs : Lfts 2) (edition limit : ℕ) (input : Slice) (store : MutSlice) → Settled (ParseAvpBy κs edition limit input store)
 parse_avp_by_one κs edition limit input store r r' after after' p q =
     let e = avps_answers.answer_of_injective r r' (p.0 ∙ sym q.0) in
     let at_exit = p.1 in
@@ -478,7 +478,7 @@ parse_avp_by_one κs edition limit input store r r' after after' p q =
 
 -- ---- lines
 
-dump_one : (κs : Lfts 2) (input out : Slice) → Settled (Dump κs input out)
+dump_one : (κs : Lfts 2) (input : Slice) (out : MutSlice) → Settled (Dump κs input out)
 dump_one κs input out r r' after after' p q = (p.1.0 ∙ sym q.1.0, p.0 ∙ sym q.0)
 
 -- ---- rules
@@ -501,22 +501,22 @@ shift_one κs table bytes records r r' after after' p q =
 writable_answer_one : Single writable_answer.Post
 writable_answer_one κs a r r' s p q = writer_answers.answer_of_injective r r' (one_answer _ _ _ _ _ _ p q)
 
-copy_one : (κs : Lfts 2) (src dst : Slice) (after after' : Slice) → Copy κs src dst after → Copy κs src dst after' → after.now ≡ after'.now
+copy_one : (κs : Lfts 2) (src : Slice) (dst : MutSlice) (after after' : MutSlice) → Copy κs src dst after → Copy κs src dst after' → after.now ≡ after'.now
 copy_one κs src dst after after' p q = p ∙ sym q
 
-put_padding_one : (κs : Lfts 1) (pads : ℕ) (out : Slice) (after after' : Slice) → PutPadding κs pads out after → PutPadding κs pads out after'
+put_padding_one : (κs : Lfts 1) (pads : ℕ) (out : MutSlice) (after after' : MutSlice) → PutPadding κs pads out after → PutPadding κs pads out after'
     → after.now ≡ after'.now
 put_padding_one κs pads out after after' p q = p ∙ sym q
 
-put_header_one : (κs : Lfts 1) (h : Header) (out : Slice) (after after' : Slice) → PutHeader κs h out after → PutHeader κs h out after'
+put_header_one : (κs : Lfts 1) (h : Header) (out : MutSlice) (after after' : MutSlice) → PutHeader κs h out after → PutHeader κs h out after'
     → after.now ≡ after'.now
 put_header_one κs h out after after' p q = p ∙ sym q
 
-put_head_one : (κs : Lfts 1) (r : Record) (n : ℕ) (out : Slice) (after after' : Slice) → PutHead κs r n out after → PutHead κs r n out after'
+put_head_one : (κs : Lfts 1) (r : Record) (n : ℕ) (out : MutSlice) (after after' : MutSlice) → PutHead κs r n out after → PutHead κs r n out after'
     → after.now ≡ after'.now
 put_head_one κs r n out after after' p q = p ∙ sym q
 
-write_one : (κs : Lfts 3) (fields : Fields) (table pool out : Slice) → Settled (Write κs fields table pool out)
+write_one : (κs : Lfts 3) (fields : Fields) (table pool : Slice) (out : MutSlice) → Settled (Write κs fields table pool out)
 write_one κs fields table pool out r r' after after' p q =
     let e = writer_answers.answer_of_injective r r' (p.0 ∙ sym q.0) in
     let at_exit = p.1 in
@@ -539,21 +539,21 @@ type_kind_one κs a r r' s p q = p ∙ sym q
 attribute_value_read_one : Single attribute_value_read.Post
 attribute_value_read_one κs a r r' s p q = value_as_injective r r' (p ∙ sym q)
 
-parse_attributes_one : (κs : Lfts 2) (s : Slice) (place : ℕ) (store : Slice) → Settled (ParseAttributes κs s place store)
+parse_attributes_one : (κs : Lfts 2) (s : Slice) (place : ℕ) (store : MutSlice) → Settled (ParseAttributes κs s place store)
 parse_attributes_one κs s place store r r' after after' p q =
     let e = attributes_answers.answer_of_injective r r' (p.0 ∙ sym q.0) in
     let at_exit = p.1 in
     let at_exit' = q.1 in
     (e, cc)
 
-parse_packet_one : (κs : Lfts 2) (input store : Slice) → Settled (ParsePacket κs input store)
+parse_packet_one : (κs : Lfts 2) (input : Slice) (store : MutSlice) → Settled (ParsePacket κs input store)
 parse_packet_one κs input store r r' after after' p q =
     let e = packet_answers.answer_of_injective r r' (p.0 ∙ sym q.0) (p.1.0 ∙ sym q.1.0) in
     let at_exit = p.1.1 in
     let at_exit' = q.1.1 in
     (e, cc)
 
-write_packet_one : (κs : Lfts 3) (fields : packet.Fields) (table pool out : Slice) → Settled (WritePacket κs fields table pool out)
+write_packet_one : (κs : Lfts 3) (fields : packet.Fields) (table pool : Slice) (out : MutSlice) → Settled (WritePacket κs fields table pool out)
 write_packet_one κs fields table pool out r r' after after' p q =
     let e = writer_answers.answer_of_injective r r' (p.0 ∙ sym q.0) in
     let at_exit = p.1 in
@@ -594,38 +594,38 @@ packet_of_written_one κs a r r' s p q = p ∙ sym q
 
 -- ---- tandrekily
 
-tandrekily_message_one : (κs : Lfts 3) (rfc : Bool) (limit : ℕ) (input store result : Slice)
+tandrekily_message_one : (κs : Lfts 3) (rfc : Bool) (limit : ℕ) (input : Slice) (store result : MutSlice)
     → BothSettled (TandrekilyMessage κs rfc limit input store result)
 tandrekily_message_one κs rfc limit input store result _ _ _ _ p q = (p.1 ∙ sym q.1, p.0 ∙ sym q.0)
 
-tandrekily_header_one : (κs : Lfts 2) (input result after after' : Slice) → TandrekilyHeader κs input result after
+tandrekily_header_one : (κs : Lfts 2) (input : Slice) (result after after' : MutSlice) → TandrekilyHeader κs input result after
     → TandrekilyHeader κs input result after' → after.now ≡ after'.now
 tandrekily_header_one κs input result after after' p q = p ∙ sym q
 
-tandrekily_avp_one : (κs : Lfts 3) (rfc : Bool) (limit : ℕ) (input store result : Slice)
+tandrekily_avp_one : (κs : Lfts 3) (rfc : Bool) (limit : ℕ) (input : Slice) (store result : MutSlice)
     → BothSettled (TandrekilyAvp κs rfc limit input store result)
 tandrekily_avp_one κs rfc limit input store result _ _ _ _ p q = (p.1 ∙ sym q.1, p.0 ∙ sym q.0)
 
-tandrekily_message_by_one : (κs : Lfts 3) (edition limit : ℕ) (input store result : Slice)
+tandrekily_message_by_one : (κs : Lfts 3) (edition limit : ℕ) (input : Slice) (store result : MutSlice)
     → BothSettled (TandrekilyMessageBy κs edition limit input store result)
 tandrekily_message_by_one κs edition limit input store result _ _ _ _ p q = (p.1 ∙ sym q.1, p.0 ∙ sym q.0)
 
-tandrekily_avp_by_one : (κs : Lfts 3) (edition limit : ℕ) (input store result : Slice)
+tandrekily_avp_by_one : (κs : Lfts 3) (edition limit : ℕ) (input : Slice) (store result : MutSlice)
     → BothSettled (TandrekilyAvpBy κs edition limit input store result)
 tandrekily_avp_by_one κs edition limit input store result _ _ _ _ p q = (p.1 ∙ sym q.1, p.0 ∙ sym q.0)
 
-tandrekily_find_one : (κs : Lfts 2) (input : Slice) (code : ℕ) (result after after' : Slice) → TandrekilyFind κs input code result after
+tandrekily_find_one : (κs : Lfts 2) (input : Slice) (code : ℕ) (result after after' : MutSlice) → TandrekilyFind κs input code result after
     → TandrekilyFind κs input code result after' → after.now ≡ after'.now
 tandrekily_find_one κs input code result after after' p q = p ∙ sym q
 
-tandrekily_next_one : (κs : Lfts 2) (message : Slice) (place : ℕ) (result : Slice) → Settled (TandrekilyNext κs message place result)
+tandrekily_next_one : (κs : Lfts 2) (message : Slice) (place : ℕ) (result : MutSlice) → Settled (TandrekilyNext κs message place result)
 tandrekily_next_one κs message place result r r' after after' p q = (p.0 ∙ sym q.0, p.1 ∙ sym q.1)
 
-tandrekily_write_one : (κs : Lfts 4) (flags code app_id hop_id end_id : ℕ) (table pool out result : Slice)
+tandrekily_write_one : (κs : Lfts 4) (flags code app_id hop_id end_id : ℕ) (table pool : Slice) (out result : MutSlice)
     → BothSettled (TandrekilyWrite κs flags code app_id hop_id end_id table pool out result)
 tandrekily_write_one κs flags code app_id hop_id end_id table pool out result _ _ _ _ p q = (p.1 ∙ sym q.1, p.0 ∙ sym q.0)
 
-tandrekily_shift_one : (κs : Lfts 2) (table : Slice) (bytes records : ℕ) (result : Slice) → BothSettled (TandrekilyShift κs table bytes records result)
+tandrekily_shift_one : (κs : Lfts 2) (table : Slice) (bytes records : ℕ) (result : MutSlice) → BothSettled (TandrekilyShift κs table bytes records result)
 tandrekily_shift_one κs table bytes records result _ _ _ _ p q = (p.1 ∙ sym q.1, p.0 ∙ sym q.0)
 
 tandrekily_is_utf8_one : Single tandrekily_is_utf8.Post
@@ -647,12 +647,12 @@ tandrekily_compare_one : (κs : Lfts 1) (digits exponent other_digits other_expo
     → Settled (TandrekilyCompare κs digits exponent other_digits other_exponent order)
 tandrekily_compare_one κs digits exponent other_digits other_exponent order r r' after after' p q = (p.0 ∙ sym q.0, p.1 ∙ sym q.1)
 
-tandrekily_radius_one : (κs : Lfts 4) (input store authenticator result : Slice) (after after' given given' told told' : Slice)
+tandrekily_radius_one : (κs : Lfts 4) (input : Slice) (store : MutSlice) (authenticator : Slice) (result : MutSlice) (after after' given given' told told' : MutSlice)
     → TandrekilyRadius κs input store authenticator result after given told → TandrekilyRadius κs input store authenticator result after' given' told'
     → (after.now ≡ after'.now) × (given.now ≡ given'.now) × (told.now ≡ told'.now)
 tandrekily_radius_one κs input store authenticator result after after' given given' told told' p q =
     (p.1.1 ∙ sym q.1.1, p.1.0 ∙ sym q.1.0, p.0 ∙ sym q.0)
 
-tandrekily_radius_write_one : (κs : Lfts 5) (code identifier : ℕ) (authenticator table pool out result : Slice)
+tandrekily_radius_write_one : (κs : Lfts 5) (code identifier : ℕ) (authenticator table pool : Slice) (out result : MutSlice)
     → BothSettled (TandrekilyRadiusWrite κs code identifier authenticator table pool out result)
 tandrekily_radius_write_one κs code identifier authenticator table pool out result _ _ _ _ p q = (p.1 ∙ sym q.1, p.0 ∙ sym q.0)

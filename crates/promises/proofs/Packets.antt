@@ -39,7 +39,7 @@ use Rattle.record.specs.declared.written.Written.TheVariants as writer
 use Rattle.record.specs.Written as writers
 use Rattle.radius_writer.specs.Answers.{header_as}
 use Rattle.record.proofs.AnswerOf.{answer_of_injective}
-use Rattle.promises.proofs.OneOutcome.Calls.{Slice, ParsePacket, WritePacket}
+use Rattle.promises.proofs.OneOutcome.Calls.{Slice, MutSlice, ParsePacket, WritePacket}
 
 -- a packet that was accepted, with its authenticator
 abbrev pub accepts : Packet → List ℕ → Parsed
@@ -59,7 +59,7 @@ pub record Left (n : ℕ) (s : List ℕ) (p : Packet) (a store : List ℕ) : Typ
   pub rest : List ℕ
   pub store_is : store ≡ laid (packet_records s) ++ rest
 
-pub left : (κs : Lfts 2) (input store : Slice) (p : Packet) (a : List ℕ) (store' : Slice)
+pub left : (κs : Lfts 2) (input : Slice) (store : MutSlice) (p : Packet) (a : List ℕ) (store' : MutSlice)
     → ParsePacket κs input store (accepts p a) store' → Left (room store.now) input.now p a store'.now
 unfolding answer_with packet_as packet_of stored
 left κs input store p a store' call =
@@ -78,8 +78,8 @@ left κs input store p a store' call =
 
 -- `parse` accepted p and left its records in store'; `write`, given p's header, those records and the input, answered r and left out'.
 -- `Bytes` is asked as in RoundTrip.
-pub decoded_then_written : (κs : Lfts 2) (input store : Slice) (p : Packet) (a : List ℕ) (store' : Slice)
-    (λs : Lfts 3) (fields : Fields) (table pool out : Slice) (r : Written) (out' : Slice)
+pub decoded_then_written : (κs : Lfts 2) (input : Slice) (store : MutSlice) (p : Packet) (a : List ℕ) (store' : MutSlice)
+    (λs : Lfts 3) (fields : Fields) (table pool : Slice) (out : MutSlice) (r : Written) (out' : MutSlice)
     → ParsePacket κs input store (accepts p a) store' → WritePacket λs fields table pool out r out' → Bytes input.now
     → header_as fields ≡ headed p a
     → table.now ≡ take (p.records * record_size) store'.now
@@ -127,8 +127,8 @@ accepted_as a (decoder.Accepted p) x e = record { packet = p; is_accepted = refl
 accepted_as a (decoder.Refused why) x e = absurd (not_accepted e)
 
 -- `write` wrote n bytes to the front of out', and these are the input of `parse`, whose store holds as many records as the table has
-pub written_then_decoded : (κs : Lfts 3) (fields : Fields) (table pool out : Slice) (n : ℕ) (out' : Slice)
-    (λs : Lfts 2) (input store : Slice) (r : Parsed) (store' : Slice)
+pub written_then_decoded : (κs : Lfts 3) (fields : Fields) (table pool : Slice) (out : MutSlice) (n : ℕ) (out' : MutSlice)
+    (λs : Lfts 2) (input : Slice) (store : MutSlice) (r : Parsed) (store' : MutSlice)
     → WritePacket κs fields table pool out (writer.Accepted n) out' → ParsePacket λs input store r store'
     → Sized (header_as fields) → Bytes input.now
     → input.now ≡ take n out'.now
@@ -153,7 +153,7 @@ written_then_decoded κs fields table pool out n out' λs input store r store' w
 
 -- ---- the attributes tried
 
-pub tried_of_the_decoder : (κs : Lfts 2) (input store : Slice) (p : Packet) (a : List ℕ) (store' : Slice)
+pub tried_of_the_decoder : (κs : Lfts 2) (input : Slice) (store : MutSlice) (p : Packet) (a : List ℕ) (store' : MutSlice)
     → ParsePacket κs input store (accepts p a) store' → (p.tried ≡ p.records) × (2 * p.tried ≤ p.length - 20)
 unfolding packet_as
 tried_of_the_decoder κs input store p a store' call =
@@ -167,7 +167,7 @@ pub record AtTheBound (k : ℕ) (r : Parsed) : Type 0 where
   pub length_is : packet.length ≡ 20 + 2 * k
   pub tried_is : 2 * packet.tried ≡ packet.length - 20
 
-pub bound_is_reached : (κs : Lfts 2) (k : ℕ) (input store : Slice) (r : Parsed) (store' : Slice)
+pub bound_is_reached : (κs : Lfts 2) (k : ℕ) (input : Slice) (store : MutSlice) (r : Parsed) (store' : MutSlice)
     → ParsePacket κs input store r store' → input.now ≡ extremal k → k ≤ room store.now → 20 + 2 * k ≤ most_packet → AtTheBound k r
 unfolding packet_as
 bound_is_reached κs k input store r store' call is fits short =
@@ -180,7 +180,7 @@ bound_is_reached κs k input store r store' call is fits short =
 
 -- ---- where text broke
 
-pub each_tells_break : (κs : Lfts 2) (input store : Slice) (p : Packet) (a : List ℕ) (store' : Slice)
+pub each_tells_break : (κs : Lfts 2) (input : Slice) (store : MutSlice) (p : Packet) (a : List ℕ) (store' : MutSlice)
     → ParsePacket κs input store (accepts p a) store' → Bytes input.now
     → Every (TellsBreak input.now) (whole_records p.records store'.now)
 each_tells_break κs input store p a store' call bytes =

@@ -43,7 +43,7 @@ use Rattle.radius_writer.specs.declared.Fields as radius
 use Rattle.radius_writer.specs.Answers.{header_as}
 use Rattle.record.specs.declared.written.Written.TheVariants as writer
 use Rattle.record.specs.Written as writers
-use Rattle.promises.proofs.OneOutcome.Calls.{Slice, Write, ParsePacket, WritePacket}
+use Rattle.promises.proofs.OneOutcome.Calls.{Slice, MutSlice, Write, ParsePacket, WritePacket}
 use Rattle.promises.proofs.Ways.{Way, dictionary_of, Decode, DecodeAlone, accepts, accepts_alone, lawful, address_small}
 use Rattle.promises.proofs.RoundTrip.{left}
 use Rattle.promises.proofs.Packets as of_packets
@@ -63,7 +63,7 @@ parented_back D place s n store more counted is w =
 -- ---- decoded
 
 -- a decoder accepted m and left its records in store'. `Bytes` is asked as in RoundTrip
-pub message_parented : (way : Way) (κs : Lfts 2) (limit : ℕ) (input store : Slice) (m : Message) (store' : Slice)
+pub message_parented : (way : Way) (κs : Lfts 2) (limit : ℕ) (input : Slice) (store : MutSlice) (m : Message) (store' : MutSlice)
     → Decode way κs limit input store (decoder.Accepted m) store' → Bytes input.now
     → Parented (dictionary_of way) (message_body input.now) (whole_records m.records store'.now)
 unfolding answer_of stored message_records
@@ -77,7 +77,7 @@ message_parented way κs limit input store m store' p bytes =
     (whole D (lawful way) (address_small way) _ _ s (message_as m) bytes e)
 
 -- the same of one AVP alone
-pub alone_parented : (way : Way) (κs : Lfts 2) (limit : ℕ) (input store : Slice) (c : Counts) (store' : Slice)
+pub alone_parented : (way : Way) (κs : Lfts 2) (limit : ℕ) (input : Slice) (store : MutSlice) (c : Counts) (store' : MutSlice)
     → DecodeAlone way κs limit input store (filled.Accepted c) store' → Bytes input.now
     → let D = dictionary_of way in
     Parented D (item (avps D) input.now) (whole_records c.records store'.now)
@@ -93,7 +93,7 @@ alone_parented way κs limit input store c store' p bytes =
 -- ---- written
 
 -- `write` accepted a table
-pub table_parented : (κs : Lfts 3) (fields : Fields) (table pool out : Slice) (n : ℕ) (out' : Slice)
+pub table_parented : (κs : Lfts 3) (fields : Fields) (table pool : Slice) (out : MutSlice) (n : ℕ) (out' : MutSlice)
     → Write κs fields table pool out (writer.Accepted n) out'
     → (own_parents (table_of table.now) ≡ told_parents (table_of table.now)) × InGroups [] (table_of table.now)
 unfolding writers.answer_of
@@ -103,7 +103,7 @@ table_parented κs fields table pool out n out' p =
 
 -- ---- RADIUS
 
-pub packet_at_top : (κs : Lfts 2) (input store : Slice) (p : Packet) (a : List ℕ) (store' : Slice)
+pub packet_at_top : (κs : Lfts 2) (input : Slice) (store : MutSlice) (p : Packet) (a : List ℕ) (store' : MutSlice)
     → ParsePacket κs input store (of_packets.accepts p a) store' → Bytes input.now → AtTop (whole_records p.records store'.now)
 packet_at_top κs input store p a store' call bytes =
     let s = input.now in
@@ -112,7 +112,7 @@ packet_at_top κs input store p a store' call bytes =
     (packets.whole _ s (packet_as a p) bytes l.answer_is)
     (packet_top s)
 
-pub attributes_at_top : (κs : Lfts 3) (fields : radius.Fields) (table pool out : Slice) (n : ℕ) (out' : Slice)
+pub attributes_at_top : (κs : Lfts 3) (fields : radius.Fields) (table pool : Slice) (out : MutSlice) (n : ℕ) (out' : MutSlice)
     → WritePacket κs fields table pool out (writer.Accepted n) out' → AtTop (table_of table.now)
 unfolding writers.answer_of
 attributes_at_top κs fields table pool out n out' wrote =

@@ -31,7 +31,7 @@ use Rattle.writer.specs.declared.Fields.{Fields}
 use Rattle.record.specs.declared.written.Written.TheVariants as writer
 use Rattle.record.specs.Written.{answer_of}
 use Rattle.writer.specs.Answers.{fields_as}
-use Rattle.promises.proofs.OneOutcome.Calls.{Slice, Write}
+use Rattle.promises.proofs.OneOutcome.Calls.{Slice, MutSlice, Write}
 use Rattle.promises.proofs.Ways.{Way, dictionary_of, Known, Decode, decodes}
 use Rattle.promises.proofs.Acceptance.{AcceptedAs, accepted_as}
 
@@ -70,8 +70,8 @@ pub record ReadAs (D : Dictionary) (input table pool : List ℕ) (n : ℕ) (r : 
 
 -- `write` wrote n bytes to the front of out', and these are the input of a decoder, whose limit and store hold what they read as.
 -- `Bytes` is asked as in RoundTrip.
-pub written_then_decoded : (κs : Lfts 3) (fields : Fields) (table pool out : Slice) (n : ℕ) (out' : Slice)
-    (way : Way) (λs : Lfts 2) (limit : ℕ) (input store : Slice) (r : Decoded) (store' : Slice)
+pub written_then_decoded : (κs : Lfts 3) (fields : Fields) (table pool : Slice) (out : MutSlice) (n : ℕ) (out' : MutSlice)
+    (way : Way) (λs : Lfts 2) (limit : ℕ) (input : Slice) (store : MutSlice) (r : Decoded) (store' : MutSlice)
     → Write κs fields table pool out (writer.Accepted n) out' → Known way → Decode way λs limit input store r store' → Bytes table.now
     → input.now ≡ take n out'.now
     → 1 ≤ limit → limit ≤ 64 → deepest (run (dictionary_of way) input.now) ≤ limit

@@ -34,41 +34,41 @@ use Rattle.results.specs.Packets as packets
 use Rattle.results.specs.Results.{message_result, avp_result, written_result, shifted_result}
 use Rattle.tandrekily.specs.Packets.{authenticator_after}
 use Rattle.tandrekily.specs.Asked.{number_shown, order_shown}
-use Rattle.promises.proofs.OneOutcome.Calls.{Slice, Parse, ParseAvp, ParseBy, ParseAvpBy, Write, Shift, TandrekilyMessage, TandrekilyAvp, TandrekilyMessageBy, TandrekilyAvpBy, TandrekilyWrite, TandrekilyShift, TandrekilyCompare, ParsePacket, WritePacket, TandrekilyRadius, TandrekilyRadiusWrite}
+use Rattle.promises.proofs.OneOutcome.Calls.{Slice, MutSlice, Parse, ParseAvp, ParseBy, ParseAvpBy, Write, Shift, TandrekilyMessage, TandrekilyAvp, TandrekilyMessageBy, TandrekilyAvpBy, TandrekilyWrite, TandrekilyShift, TandrekilyCompare, ParsePacket, WritePacket, TandrekilyRadius, TandrekilyRadiusWrite}
 
 -- ---- in Rattle: the answer is a refusal
 
-pub parse_refusal_changes_nothing : (κs : Lfts 2) (reading : Reading) (limit : ℕ) (input store : Slice) (why : Refusal) (store' : Slice)
+pub parse_refusal_changes_nothing : (κs : Lfts 2) (reading : Reading) (limit : ℕ) (input : Slice) (store : MutSlice) (why : Refusal) (store' : MutSlice)
     → Parse κs reading limit input store (diameter.Refused why) store' → store'.now ≡ store.now
 unfolding diameter_answers.answer_of stored
 parse_refusal_changes_nothing κs reading limit input store why store' p = p.1
 
-pub parse_avp_refusal_changes_nothing : (κs : Lfts 2) (reading : Reading) (limit : ℕ) (input store : Slice) (why : Refusal) (store' : Slice)
+pub parse_avp_refusal_changes_nothing : (κs : Lfts 2) (reading : Reading) (limit : ℕ) (input : Slice) (store : MutSlice) (why : Refusal) (store' : MutSlice)
     → ParseAvp κs reading limit input store (avps.Refused why) store' → store'.now ≡ store.now
 unfolding avps_answers.answer_of stored
 parse_avp_refusal_changes_nothing κs reading limit input store why store' p = p.1
 
-pub parse_by_refusal_changes_nothing : (κs : Lfts 2) (edition limit : ℕ) (input store : Slice) (why : Refusal) (store' : Slice)
+pub parse_by_refusal_changes_nothing : (κs : Lfts 2) (edition limit : ℕ) (input : Slice) (store : MutSlice) (why : Refusal) (store' : MutSlice)
     → ParseBy κs edition limit input store (diameter.Refused why) store' → store'.now ≡ store.now
 unfolding diameter_answers.answer_of stored
 parse_by_refusal_changes_nothing κs edition limit input store why store' p = p.1
 
-pub parse_avp_by_refusal_changes_nothing : (κs : Lfts 2) (edition limit : ℕ) (input store : Slice) (why : Refusal) (store' : Slice)
+pub parse_avp_by_refusal_changes_nothing : (κs : Lfts 2) (edition limit : ℕ) (input : Slice) (store : MutSlice) (why : Refusal) (store' : MutSlice)
     → ParseAvpBy κs edition limit input store (avps.Refused why) store' → store'.now ≡ store.now
 unfolding avps_answers.answer_of stored
 parse_avp_by_refusal_changes_nothing κs edition limit input store why store' p = p.1
 
-pub write_refusal_changes_nothing : (κs : Lfts 3) (fields : Fields) (table pool out : Slice) (why : Refusal) (out' : Slice)
+pub write_refusal_changes_nothing : (κs : Lfts 3) (fields : Fields) (table pool : Slice) (out : MutSlice) (why : Refusal) (out' : MutSlice)
     → Write κs fields table pool out (writer.Refused why) out' → out'.now ≡ out.now
 unfolding writer_answers.answer_of output
 write_refusal_changes_nothing κs fields table pool out why out' p = p.1
 
-pub parse_packet_refusal_changes_nothing : (κs : Lfts 2) (input store : Slice) (why : Refusal) (authenticator : List ℕ) (store' : Slice)
+pub parse_packet_refusal_changes_nothing : (κs : Lfts 2) (input : Slice) (store : MutSlice) (why : Refusal) (authenticator : List ℕ) (store' : MutSlice)
     → ParsePacket κs input store (record { decoded = radius.Refused why; authenticator = authenticator }) store' → store'.now ≡ store.now
 unfolding radius_answers.answer_with stored
 parse_packet_refusal_changes_nothing κs input store why authenticator store' p = p.1.1
 
-pub write_packet_refusal_changes_nothing : (κs : Lfts 3) (fields : packet.Fields) (table pool out : Slice) (why : Refusal) (out' : Slice)
+pub write_packet_refusal_changes_nothing : (κs : Lfts 3) (fields : packet.Fields) (table pool : Slice) (out : MutSlice) (why : Refusal) (out' : MutSlice)
     → WritePacket κs fields table pool out (writer.Refused why) out' → out'.now ≡ out.now
 unfolding writer_answers.answer_of output
 write_packet_refusal_changes_nothing κs fields table pool out why out' p = p.1
@@ -102,23 +102,23 @@ written_out : (x : Answer ℕ) (message out : List ℕ) → 1 ≤ number (writte
 unfolding written_result output
 written_out x message out = lent_unless_0 written_result (λ y. output y message out) out (λ total. refl) (λ why. refl) x
 
-pub tandrekily_message_refusal_changes_nothing : (κs : Lfts 3) (rfc : Bool) (limit : ℕ) (input store result store' result' : Slice)
+pub tandrekily_message_refusal_changes_nothing : (κs : Lfts 3) (rfc : Bool) (limit : ℕ) (input : Slice) (store result store' result' : MutSlice)
     → TandrekilyMessage κs rfc limit input store result store' result' → 1 ≤ number result'.now → store'.now ≡ store.now
 tandrekily_message_refusal_changes_nothing κs rfc limit input store result store' result' p h = p.1 ∙ message_store _ _ _ (rw p.0 at h)
 
-pub tandrekily_avp_refusal_changes_nothing : (κs : Lfts 3) (rfc : Bool) (limit : ℕ) (input store result store' result' : Slice)
+pub tandrekily_avp_refusal_changes_nothing : (κs : Lfts 3) (rfc : Bool) (limit : ℕ) (input : Slice) (store result store' result' : MutSlice)
     → TandrekilyAvp κs rfc limit input store result store' result' → 1 ≤ number result'.now → store'.now ≡ store.now
 tandrekily_avp_refusal_changes_nothing κs rfc limit input store result store' result' p h = p.1 ∙ avp_store _ _ _ (rw p.0 at h)
 
-pub tandrekily_message_by_refusal_changes_nothing : (κs : Lfts 3) (edition limit : ℕ) (input store result store' result' : Slice)
+pub tandrekily_message_by_refusal_changes_nothing : (κs : Lfts 3) (edition limit : ℕ) (input : Slice) (store result store' result' : MutSlice)
     → TandrekilyMessageBy κs edition limit input store result store' result' → 1 ≤ number result'.now → store'.now ≡ store.now
 tandrekily_message_by_refusal_changes_nothing κs edition limit input store result store' result' p h = p.1 ∙ message_store _ _ _ (rw p.0 at h)
 
-pub tandrekily_avp_by_refusal_changes_nothing : (κs : Lfts 3) (edition limit : ℕ) (input store result store' result' : Slice)
+pub tandrekily_avp_by_refusal_changes_nothing : (κs : Lfts 3) (edition limit : ℕ) (input : Slice) (store result store' result' : MutSlice)
     → TandrekilyAvpBy κs edition limit input store result store' result' → 1 ≤ number result'.now → store'.now ≡ store.now
 tandrekily_avp_by_refusal_changes_nothing κs edition limit input store result store' result' p h = p.1 ∙ avp_store _ _ _ (rw p.0 at h)
 
-pub tandrekily_write_refusal_changes_nothing : (κs : Lfts 4) (flags code app_id hop_id end_id : ℕ) (table pool out result out' result' : Slice)
+pub tandrekily_write_refusal_changes_nothing : (κs : Lfts 4) (flags code app_id hop_id end_id : ℕ) (table pool : Slice) (out result out' result' : MutSlice)
     → TandrekilyWrite κs flags code app_id hop_id end_id table pool out result out' result' → 1 ≤ number result'.now → out'.now ≡ out.now
 tandrekily_write_refusal_changes_nothing κs flags code app_id hop_id end_id table pool out result out' result' p h =
     p.1 ∙ written_out _ _ _ (rw p.0 at h)
@@ -128,7 +128,7 @@ unfolding shifted_result table_after
 moved_table bytes records x table =
     lent_unless_0 shifted_result (λ y. table_after bytes records y table) table (λ n. refl) (λ why. refl) x
 
-pub tandrekily_shift_refusal_changes_nothing : (κs : Lfts 2) (table : Slice) (bytes records : ℕ) (result table' result' : Slice)
+pub tandrekily_shift_refusal_changes_nothing : (κs : Lfts 2) (table : Slice) (bytes records : ℕ) (result : MutSlice) (table' : Slice) (result' : MutSlice)
     → TandrekilyShift κs table bytes records result table' result' → 1 ≤ number result'.now → table'.now ≡ table.now
 tandrekily_shift_refusal_changes_nothing κs table bytes records result table' result' p h = p.1 ∙ moved_table _ _ _ _ (rw p.0 at h)
 
@@ -157,13 +157,13 @@ packet_out : (x : Answer ℕ) (bytes out : List ℕ) → 1 ≤ number (packets.w
 unfolding packets.written_result output
 packet_out x bytes out = lent_unless_0 packets.written_result (λ y. output y bytes out) out (λ total. refl) (λ why. refl) x
 
-pub tandrekily_radius_refusal_changes_nothing : (κs : Lfts 4) (input store authenticator result store' authenticator' result' : Slice)
+pub tandrekily_radius_refusal_changes_nothing : (κs : Lfts 4) (input : Slice) (store : MutSlice) (authenticator : Slice) (result store' : MutSlice) (authenticator' : Slice) (result' : MutSlice)
     → TandrekilyRadius κs input store authenticator result store' authenticator' result' → 1 ≤ number result'.now
     → (store'.now ≡ store.now) × (authenticator'.now ≡ authenticator.now)
 tandrekily_radius_refusal_changes_nothing κs input store authenticator result store' authenticator' result' p h =
     let refuses = rw p.0 at h in (p.1.1 ∙ packet_store _ _ _ refuses, p.1.0 ∙ authenticator_lent _ _ refuses)
 
-pub tandrekily_radius_write_refusal_changes_nothing : (κs : Lfts 5) (code identifier : ℕ) (authenticator table pool out result out' result' : Slice)
+pub tandrekily_radius_write_refusal_changes_nothing : (κs : Lfts 5) (code identifier : ℕ) (authenticator table pool : Slice) (out result out' result' : MutSlice)
     → TandrekilyRadiusWrite κs code identifier authenticator table pool out result out' result' → 1 ≤ number result'.now → out'.now ≡ out.now
 tandrekily_radius_write_refusal_changes_nothing κs code identifier authenticator table pool out result out' result' p h =
     p.1 ∙ packet_out _ _ _ (rw p.0 at h)

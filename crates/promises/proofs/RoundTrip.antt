@@ -31,7 +31,7 @@ use Rattle.record.specs.declared.written.Written.TheVariants as writer
 use Rattle.record.specs.Written as writers
 use Rattle.writer.specs.Answers.{fields_as}
 use Rattle.record.proofs.AnswerOf.{answer_of_injective}
-use Rattle.promises.proofs.OneOutcome.Calls.{Slice, Write}
+use Rattle.promises.proofs.OneOutcome.Calls.{Slice, MutSlice, Write}
 use Rattle.promises.proofs.Ways.{Way, dictionary_of, Decode, accepts, lawful}
 
 -- a message m of the bytes s, that was accepted by a dictionary and left in the store
@@ -58,8 +58,8 @@ left D limit room s m store rest e is =
 -- A decoder accepted m and left its records in store'; `write`, given m's header, those records and the input, answered r and left out'.
 -- `Bytes` is true of every slice by its type; but `now` of a reference is a list of numbers, and that they are bytes is told only to a
 -- function that reads through it. So it stands here.
-pub decoded_then_written : (way : Way) (κs : Lfts 2) (limit : ℕ) (input store : Slice) (m : Message) (store' : Slice)
-    (λs : Lfts 3) (fields : Fields) (table pool out : Slice) (r : Written) (out' : Slice)
+pub decoded_then_written : (way : Way) (κs : Lfts 2) (limit : ℕ) (input : Slice) (store : MutSlice) (m : Message) (store' : MutSlice)
+    (λs : Lfts 3) (fields : Fields) (table pool : Slice) (out : MutSlice) (r : Written) (out' : MutSlice)
     → Decode way κs limit input store (decoder.Accepted m) store' → Write λs fields table pool out r out' → Bytes input.now
     → fields_as fields ≡ fields_of (header_as m.header)
     → table.now ≡ take (m.records * record_size) store'.now

@@ -18,7 +18,7 @@ use Rattle.round_trip.proofs.Whole.{whole}
 use Rattle.diameter.specs.declared.Message.{Message}
 use Rattle.diameter.specs.declared.Decoded.TheVariants.{Accepted}
 use Rattle.diameter.specs.Answers.{answer_of, message_as}
-use Rattle.promises.proofs.OneOutcome.Calls.{Slice}
+use Rattle.promises.proofs.OneOutcome.Calls.{Slice, MutSlice}
 use Rattle.promises.proofs.Ways.{Way, reading, edition, dictionary_of, Known, Decode, Call, Decodes, accepts, lawful, address_small}
 use Rattle.promises.proofs.RoundTrip.{Left, left}
 
@@ -34,7 +34,7 @@ records_read way limit input store m store' says bytes =
     ∙ records_back (message_records D input) _ (whole D (lawful way) (address_small way) _ _ input (message_as m) bytes e)
 
 -- an acceptance is given only by an edition that is known
-pub known_way : (way : Way) (κs : Lfts 2) (limit : ℕ) (input store : Slice) (m : Message) (store' : Slice)
+pub known_way : (way : Way) (κs : Lfts 2) (limit : ℕ) (input : Slice) (store : MutSlice) (m : Message) (store' : MutSlice)
     → Decode way κs limit input store (Accepted m) store' → Known way
 unfolding answer_of
 known_way (reading r) κs limit input store m store' p = tt

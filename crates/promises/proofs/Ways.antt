@@ -33,7 +33,7 @@ use Rattle.avps.specs.declared.Filled.TheVariants as filled
 use Rattle.avps.specs.Answers as avps
 use Rattle.diameter.specs.Answers.{answer_of, message_as, store_after}
 use Rattle.avp_alone.specs.Answers.{store_after_avp}
-use Rattle.promises.proofs.OneOutcome.Calls.{Slice, Parse, ParseAvp, ParseBy, ParseAvpBy}
+use Rattle.promises.proofs.OneOutcome.Calls.{Slice, MutSlice, Parse, ParseAvp, ParseBy, ParseAvpBy}
 
 pub data Way : Type 0 where
   reading : Reading → Way
@@ -67,13 +67,13 @@ pub record Decodes (D : Dictionary) (limit : ℕ) (input store : List ℕ) (d : 
   pub answer_is : answer_of d ≡ decoded D limit (room store) input
   pub store_is : store' ≡ store_after D input store d
 
-pub decodes : (way : Way) (κs : Lfts 2) (limit : ℕ) (input store : Slice) (d : Decoded) (store' : Slice) → Known way
+pub decodes : (way : Way) (κs : Lfts 2) (limit : ℕ) (input : Slice) (store : MutSlice) (d : Decoded) (store' : MutSlice) → Known way
     → Decode way κs limit input store d store' → Decodes (dictionary_of way) limit input.now store.now d store'.now
 decodes (reading r) κs limit input store d store' known p = record { answer_is = p.0; store_is = p.1 }
 decodes (edition n) κs limit input store d store' known p = record { answer_is = p.0 ∙ sym (message_by n limit _ input.now known); store_is = p.1 }
 
 -- an acceptance is given only by an edition that is known
-pub accepts : (way : Way) (κs : Lfts 2) (limit : ℕ) (input store : Slice) (m : Message) (store' : Slice)
+pub accepts : (way : Way) (κs : Lfts 2) (limit : ℕ) (input : Slice) (store : MutSlice) (m : Message) (store' : MutSlice)
     → Decode way κs limit input store (Accepted m) store' → Decodes (dictionary_of way) limit input.now store.now (Accepted m) store'.now
 unfolding answer_of
 accepts (reading r) κs limit input store m store' p = decodes (reading r) κs limit input store (Accepted m) store' tt p
@@ -81,7 +81,7 @@ accepts (edition n) κs limit input store m store' p =
     decodes (edition n) κs limit input store (Accepted m) store' (accepted_by n limit _ input.now (message_as m) (sym p.0)) p
 
 -- and so is a refusal for the bytes, which is neither that of the limit nor that of the edition
-pub refuses : (way : Way) (κs : Lfts 2) (limit : ℕ) (input store : Slice) (why : Refusal) (store' : Slice)
+pub refuses : (way : Way) (κs : Lfts 2) (limit : ℕ) (input : Slice) (store : MutSlice) (why : Refusal) (store' : MutSlice)
     → ((n : ℕ) → among why (limit_refusals limit ++ edition_refusals n) ≡ false)
     → Decode way κs limit input store (Refused why) store' → Decodes (dictionary_of way) limit input.now store.now (Refused why) store'.now
 unfolding answer_of
@@ -99,7 +99,7 @@ pub record DecodesAlone (D : Dictionary) (limit : ℕ) (input store : List ℕ) 
   pub answer_is : avps.answer_of d ≡ avp_alone D limit (room store) input
   pub store_is : store' ≡ store_after_avp D input store d
 
-pub accepts_alone : (way : Way) (κs : Lfts 2) (limit : ℕ) (input store : Slice) (c : Counts) (store' : Slice)
+pub accepts_alone : (way : Way) (κs : Lfts 2) (limit : ℕ) (input : Slice) (store : MutSlice) (c : Counts) (store' : MutSlice)
     → DecodeAlone way κs limit input store (filled.Accepted c) store'
     → DecodesAlone (dictionary_of way) limit input.now store.now (filled.Accepted c) store'.now
 unfolding avps.answer_of

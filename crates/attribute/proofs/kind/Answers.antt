@@ -1,7 +1,6 @@
 -- `kind` meets its contract: the table decides, but for a vendor whose codes are its own.
 use mathlib.Core.Path.{◌≡◌, refl}
 use mathlib.Core.Bool.{Bool, true, false, not, ◌||◌}
-use borrow.Author.Rules.{rules}
 use borrow.Author.Tests.{ne_eqb, not-true, not-false}
 use Rattle.attribute.specs.ByTable.{kind_by, dictionary_by}
 use Rattle.attribute.proofs.kind.Goals as goal

@@ -1,7 +1,6 @@
 -- `parse` meets its contract: a complete AVP is accepted with its fields, and of one that is not, `refusal` says which refusal is
 -- first.
 use mathlib.Core.Path.{sym, ◌∙◌}
-use borrow.Author.Rules.{rules}
 use Rattle.front.specs.Front.{answer_of}
 use Rattle.front.proofs.Fronts.{was_whole, was_broken}
 use Rattle.front.proofs.Refusals.{accepted_whole}

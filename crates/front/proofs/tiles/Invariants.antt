@@ -1,14 +1,9 @@
 -- `tiles` meets its contract: what is left of the run at `at` tiles exactly where the whole does, since every AVP passed so far was
 -- complete. The loop stops where no complete AVP is at the front, or where nothing is left. The measure is what is left.
 use Prim.Native.Nat.{◌-◌, ◌≤◌}
-use mathlib.Core.Path.{◌≡◌, sym, ap, ◌∙◌}
-use mathlib.Core.Bool.{false}
-use native.Mathlib.Omega.{arith}
-use lib.ListN.{length, drop, length-drop, drop_of_length-le}
-use borrow.Author.Rules.{rules}
+use mathlib.Core.Path.{◌≡◌}
+use lib.ListN.{length, drop}
 use Rattle.rfc6733.specs.Records.{tiling}
-use Rattle.rfc6733.proofs.Tiling.{tiling_none, tiling_broken, tiling_more}
-use Rattle.front.proofs.Fronts.{Turn, turn, next_is, stuck}
 use Rattle.front.proofs.tiles.Given as goal
 
 abbrev pub invariant-loop-at : goal.invariant-loop-at

@@ -5,7 +5,7 @@ use mathlib.Core.Bool.{Bool}
 use mathlib.Core.List.{List}
 use lib.IntN.{ℤ}
 use contract.Lifetimes.{Lfts}
-use denote.Ref.{Bor}
+use denote.Ref.{Bor, MutBor}
 use Rattle.attribute.specs.declared.Reading.{Reading}
 use Rattle.attribute.specs.declared.Dictionary.{Dictionary}
 use Rattle.utf8.specs.declared.Utf8.{Utf8}
@@ -68,59 +68,63 @@ use Rattle.tandrekily.proofs.tandrekily_unix_seconds.Reads as tandrekily_unix_se
 abbrev pub Slice : Type 0
 Slice = Bor (List ℕ)
 
+-- a reference by which a slice may be changed
+abbrev pub MutSlice : Type 0
+MutSlice = MutBor (List ℕ)
+
 abbrev pub Check : Lfts 1 → Slice → Utf8 → Type 0
 Check κs s r = check.Post κs (s, tt) r (s, tt)
 
 abbrev pub IsUtf8 : Lfts 1 → Slice → Bool → Type 0
 IsUtf8 κs s r = is_utf8.Post κs (s, tt) r (s, tt)
 
-abbrev pub PutWord : Lfts 1 → Slice → ℕ → Slice → Type 0
+abbrev pub PutWord : Lfts 1 → MutSlice → ℕ → MutSlice → Type 0
 PutWord κs out v out' = put_word.Post κs (out, (v, tt)) tt (out', (v, tt))
 
-abbrev pub PutLong : Lfts 1 → Slice → ℕ → Slice → Type 0
+abbrev pub PutLong : Lfts 1 → MutSlice → ℕ → MutSlice → Type 0
 PutLong κs out v out' = put_long.Post κs (out, (v, tt)) tt (out', (v, tt))
 
-abbrev pub Copy : Lfts 2 → Slice → Slice → Slice → Type 0
+abbrev pub Copy : Lfts 2 → Slice → MutSlice → MutSlice → Type 0
 Copy κs src dst dst' = copy.Post κs (src, (dst, tt)) tt (src, (dst', tt))
 
-abbrev pub PutPadding : Lfts 1 → ℕ → Slice → Slice → Type 0
+abbrev pub PutPadding : Lfts 1 → ℕ → MutSlice → MutSlice → Type 0
 PutPadding κs pads out out' = put_padding.Post κs (pads, (out, tt)) tt (pads, (out', tt))
 
-abbrev pub PutHeader : Lfts 1 → Header → Slice → Slice → Type 0
+abbrev pub PutHeader : Lfts 1 → Header → MutSlice → MutSlice → Type 0
 PutHeader κs h out out' = put_header.Post κs (h, (out, tt)) tt (h, (out', tt))
 
-abbrev pub PutHead : Lfts 1 → Record → ℕ → Slice → Slice → Type 0
+abbrev pub PutHead : Lfts 1 → Record → ℕ → MutSlice → MutSlice → Type 0
 PutHead κs r n out out' = put_head.Post κs (r, (n, (out, tt))) tt (r, (n, (out', tt)))
 
-abbrev pub RecordPut : Lfts 1 → Record → Slice → Bool → Slice → Type 0
+abbrev pub RecordPut : Lfts 1 → Record → MutSlice → Bool → MutSlice → Type 0
 RecordPut κs self store r store' = put.Post κs (self, (store, tt)) r (self, (store', tt))
 
-abbrev pub PutFound : Lfts 1 → Slice → ℕ → ℕ → ℕ → Slice → Type 0
+abbrev pub PutFound : Lfts 1 → MutSlice → ℕ → ℕ → ℕ → MutSlice → Type 0
 PutFound κs store kind errors value store' =
     put_found.Post κs (store, (kind, (errors, (value, tt)))) tt (store', (kind, (errors, (value, tt))))
 
-abbrev pub PutPlaceAndParent : Lfts 1 → Slice → ℕ → ℕ → Slice → Type 0
+abbrev pub PutPlaceAndParent : Lfts 1 → MutSlice → ℕ → ℕ → MutSlice → Type 0
 PutPlaceAndParent κs table place parent table' =
     put_place_and_parent.Post κs (table, (place, (parent, tt))) tt (table', (place, (parent, tt)))
 
-abbrev pub Clear : Lfts 1 → Slice → Slice → Type 0
+abbrev pub Clear : Lfts 1 → MutSlice → MutSlice → Type 0
 Clear κs store store' = clear.Post κs (store, tt) tt (store', tt)
 
-abbrev pub ParseAvps : Lfts 3 → Dictionary → Slice → ℕ → Slice → ℕ → Slice → Filled → Slice → Type 0
+abbrev pub ParseAvps : Lfts 3 → Dictionary → Slice → ℕ → Slice → ℕ → MutSlice → Filled → MutSlice → Type 0
 ParseAvps κs d kinds limit s place store r store' =
     parse_avps.Post κs (d, (kinds, (limit, (s, (place, (store, tt)))))) r (d, (kinds, (limit, (s, (place, (store', tt))))))
 
-abbrev pub Parse : Lfts 2 → Reading → ℕ → Slice → Slice → Decoded → Slice → Type 0
+abbrev pub Parse : Lfts 2 → Reading → ℕ → Slice → MutSlice → Decoded → MutSlice → Type 0
 Parse κs reading limit input store r store' = parse.Post κs (reading, (limit, (input, (store, tt)))) r (reading, (limit, (input, (store', tt))))
 
-abbrev pub ParseAvp : Lfts 2 → Reading → ℕ → Slice → Slice → Filled → Slice → Type 0
+abbrev pub ParseAvp : Lfts 2 → Reading → ℕ → Slice → MutSlice → Filled → MutSlice → Type 0
 ParseAvp κs reading limit input store r store' = parse_avp.Post κs (reading, (limit, (input, (store, tt)))) r (reading, (limit, (input, (store', tt))))
 
-abbrev pub ParseBy : Lfts 2 → ℕ → ℕ → Slice → Slice → Decoded → Slice → Type 0
+abbrev pub ParseBy : Lfts 2 → ℕ → ℕ → Slice → MutSlice → Decoded → MutSlice → Type 0
 ParseBy κs edition limit input store r store' =
     parse_by.Post κs (edition, (limit, (input, (store, tt)))) r (edition, (limit, (input, (store', tt))))
 
-abbrev pub ParseAvpBy : Lfts 2 → ℕ → ℕ → Slice → Slice → Filled → Slice → Type 0
+abbrev pub ParseAvpBy : Lfts 2 → ℕ → ℕ → Slice → MutSlice → Filled → MutSlice → Type 0
 ParseAvpBy κs edition limit input store r store' =
     parse_avp_by.Post κs (edition, (limit, (input, (store, tt)))) r (edition, (limit, (input, (store', tt))))
 
@@ -133,52 +137,52 @@ Compare a b r = compare.Post tt (a, (b, tt)) r (a, (b, tt))
 abbrev pub Find : Lfts 1 → Slice → ℕ → Found → Type 0
 Find κs input code r = find.Post κs (input, (code, tt)) r (input, (code, tt))
 
-abbrev pub Dump : Lfts 2 → Slice → Slice → ℕ → Slice → Type 0
+abbrev pub Dump : Lfts 2 → Slice → MutSlice → ℕ → MutSlice → Type 0
 Dump κs input out r out' = dump.Post κs (input, (out, tt)) r (input, (out', tt))
 
-abbrev pub Write : Lfts 3 → Fields → Slice → Slice → Slice → Written → Slice → Type 0
+abbrev pub Write : Lfts 3 → Fields → Slice → Slice → MutSlice → Written → MutSlice → Type 0
 Write κs fields table pool out r out' = write.Post κs (fields, (table, (pool, (out, tt)))) r (fields, (table, (pool, (out', tt))))
 
-abbrev pub Shift : Lfts 1 → Slice → ℕ → ℕ → Shifted → Slice → Type 0
+abbrev pub Shift : Lfts 1 → MutSlice → ℕ → ℕ → Shifted → MutSlice → Type 0
 Shift κs table bytes records r table' = shift.Post κs (table, (bytes, (records, tt))) r (table', (bytes, (records, tt)))
 
-abbrev pub TandrekilyMessage : Lfts 3 → Bool → ℕ → Slice → Slice → Slice → Slice → Slice → Type 0
+abbrev pub TandrekilyMessage : Lfts 3 → Bool → ℕ → Slice → MutSlice → MutSlice → MutSlice → MutSlice → Type 0
 TandrekilyMessage κs rfc limit input store result store' result' =
     tandrekily_message.Post κs (rfc, (limit, (input, (store, (result, tt))))) tt (rfc, (limit, (input, (store', (result', tt)))))
 
-abbrev pub TandrekilyHeader : Lfts 2 → Slice → Slice → Slice → Type 0
+abbrev pub TandrekilyHeader : Lfts 2 → Slice → MutSlice → MutSlice → Type 0
 TandrekilyHeader κs input result result' = tandrekily_header.Post κs (input, (result, tt)) tt (input, (result', tt))
 
-abbrev pub TandrekilyAvp : Lfts 3 → Bool → ℕ → Slice → Slice → Slice → Slice → Slice → Type 0
+abbrev pub TandrekilyAvp : Lfts 3 → Bool → ℕ → Slice → MutSlice → MutSlice → MutSlice → MutSlice → Type 0
 TandrekilyAvp κs rfc limit input store result store' result' =
     tandrekily_avp.Post κs (rfc, (limit, (input, (store, (result, tt))))) tt (rfc, (limit, (input, (store', (result', tt)))))
 
-abbrev pub TandrekilyMessageBy : Lfts 3 → ℕ → ℕ → Slice → Slice → Slice → Slice → Slice → Type 0
+abbrev pub TandrekilyMessageBy : Lfts 3 → ℕ → ℕ → Slice → MutSlice → MutSlice → MutSlice → MutSlice → Type 0
 TandrekilyMessageBy κs edition limit input store result store' result' =
     tandrekily_message_by.Post κs (edition, (limit, (input, (store, (result, tt))))) tt (edition, (limit, (input, (store', (result', tt)))))
 
-abbrev pub TandrekilyAvpBy : Lfts 3 → ℕ → ℕ → Slice → Slice → Slice → Slice → Slice → Type 0
+abbrev pub TandrekilyAvpBy : Lfts 3 → ℕ → ℕ → Slice → MutSlice → MutSlice → MutSlice → MutSlice → Type 0
 TandrekilyAvpBy κs edition limit input store result store' result' =
     tandrekily_avp_by.Post κs (edition, (limit, (input, (store, (result, tt))))) tt (edition, (limit, (input, (store', (result', tt)))))
 
-abbrev pub TandrekilyCompare : Lfts 1 → ℤ → ℤ → ℤ → ℤ → Bor ℤ → ℕ → Bor ℤ → Type 0
+abbrev pub TandrekilyCompare : Lfts 1 → ℤ → ℤ → ℤ → ℤ → MutBor ℤ → ℕ → MutBor ℤ → Type 0
 TandrekilyCompare κs digits exponent other_digits other_exponent order r order' =
     tandrekily_compare.Post κs (digits, (exponent, (other_digits, (other_exponent, (order, tt))))) r
     (digits, (exponent, (other_digits, (other_exponent, (order', tt)))))
 
-abbrev pub TandrekilyFind : Lfts 2 → Slice → ℕ → Slice → Slice → Type 0
+abbrev pub TandrekilyFind : Lfts 2 → Slice → ℕ → MutSlice → MutSlice → Type 0
 TandrekilyFind κs input code result result' = tandrekily_find.Post κs (input, (code, (result, tt))) tt (input, (code, (result', tt)))
 
-abbrev pub TandrekilyNext : Lfts 2 → Slice → ℕ → Slice → ℕ → Slice → Type 0
+abbrev pub TandrekilyNext : Lfts 2 → Slice → ℕ → MutSlice → ℕ → MutSlice → Type 0
 TandrekilyNext κs message place result r result' =
     tandrekily_next.Post κs (message, (place, (result, tt))) r (message, (place, (result', tt)))
 
-abbrev pub TandrekilyWrite : Lfts 4 → ℕ → ℕ → ℕ → ℕ → ℕ → Slice → Slice → Slice → Slice → Slice → Slice → Type 0
+abbrev pub TandrekilyWrite : Lfts 4 → ℕ → ℕ → ℕ → ℕ → ℕ → Slice → Slice → MutSlice → MutSlice → MutSlice → MutSlice → Type 0
 TandrekilyWrite κs flags code app_id hop_id end_id table pool out result out' result' =
     tandrekily_write.Post κs (flags, (code, (app_id, (hop_id, (end_id, (table, (pool, (out, (result, tt))))))))) tt
     (flags, (code, (app_id, (hop_id, (end_id, (table, (pool, (out', (result', tt)))))))))
 
-abbrev pub TandrekilyShift : Lfts 2 → Slice → ℕ → ℕ → Slice → Slice → Slice → Type 0
+abbrev pub TandrekilyShift : Lfts 2 → MutSlice → ℕ → ℕ → MutSlice → MutSlice → MutSlice → Type 0
 TandrekilyShift κs table bytes records result table' result' =
     tandrekily_shift.Post κs (table, (bytes, (records, (result, tt)))) tt (table', (bytes, (records, (result', tt))))
 
@@ -193,21 +197,21 @@ TandrekilyUnixSeconds time r = tandrekily_unix_seconds.Post tt (time, tt) r (tim
 
 -- ---- RADIUS
 
-abbrev pub ParseAttributes : Lfts 2 → Slice → ℕ → Slice → attributes.Filled → Slice → Type 0
+abbrev pub ParseAttributes : Lfts 2 → Slice → ℕ → MutSlice → attributes.Filled → MutSlice → Type 0
 ParseAttributes κs s place store r store' = parse_attributes.Post κs (s, (place, (store, tt))) r (s, (place, (store', tt)))
 
-abbrev pub ParsePacket : Lfts 2 → Slice → Slice → Parsed → Slice → Type 0
+abbrev pub ParsePacket : Lfts 2 → Slice → MutSlice → Parsed → MutSlice → Type 0
 ParsePacket κs input store r store' = parse_packet.Post κs (input, (store, tt)) r (input, (store', tt))
 
-abbrev pub WritePacket : Lfts 3 → packet_fields.Fields → Slice → Slice → Slice → Written → Slice → Type 0
+abbrev pub WritePacket : Lfts 3 → packet_fields.Fields → Slice → Slice → MutSlice → Written → MutSlice → Type 0
 WritePacket κs fields table pool out r out' =
     write_packet.Post κs (fields, (table, (pool, (out, tt)))) r (fields, (table, (pool, (out', tt))))
 
-abbrev pub TandrekilyRadius : Lfts 4 → Slice → Slice → Slice → Slice → Slice → Slice → Slice → Type 0
+abbrev pub TandrekilyRadius : Lfts 4 → Slice → MutSlice → MutSlice → MutSlice → MutSlice → MutSlice → MutSlice → Type 0
 TandrekilyRadius κs input store authenticator result store' authenticator' result' =
     tandrekily_radius.Post κs (input, (store, (authenticator, (result, tt)))) tt (input, (store', (authenticator', (result', tt))))
 
-abbrev pub TandrekilyRadiusWrite : Lfts 5 → ℕ → ℕ → Slice → Slice → Slice → Slice → Slice → Slice → Slice → Type 0
+abbrev pub TandrekilyRadiusWrite : Lfts 5 → ℕ → ℕ → Slice → Slice → Slice → MutSlice → MutSlice → MutSlice → MutSlice → Type 0
 TandrekilyRadiusWrite κs code identifier authenticator table pool out result out' result' =
     tandrekily_radius_write.Post κs (code, (identifier, (authenticator, (table, (pool, (out, (result, tt))))))) tt
     (code, (identifier, (authenticator, (table, (pool, (out', (result', tt)))))))

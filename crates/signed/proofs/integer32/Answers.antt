@@ -1,7 +1,6 @@
 -- `integer32` meets its contract: an Enumerated is an Integer32, whose number fits 32 bits.
 use mathlib.Core.Path.{sym, ap, subst, ◌∙◌}
 use lib.IntN.{ℤ}
-use borrow.Author.Rules.{rules}
 use mir.Syntax.{w32}
 use mir.Val.{SFits, to_z, of_z}
 use mir.ValLaws.{to_z-Fits, to_z-of_z}

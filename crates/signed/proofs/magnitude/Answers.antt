@@ -5,7 +5,6 @@ use lib.IntN.{negsuc, ◌-ℤ◌}
 use lib.Signed.{mag}
 use mir.Syntax.{w64}
 use mir.Val.{to_z, of_z}
-use borrow.Author.Rules.{rules}
 use Rattle.signed.proofs.Casts.{CastTo, natural_cast, negative_cast, negative_size}
 use Rattle.signed.proofs.magnitude.Goals as goal
 use Rattle.signed.proofs.magnitude.Goals.{Else-n-ge0, Then-n-ge0}

@@ -1,5 +1,4 @@
 -- `signed_enumerated` meets its contract: the lower half of the patterns are the numbers themselves, and the upper half those less 2 ^ 32.
-use borrow.Author.Rules.{rules}
 use native.Mathlib.Omega.{arith}
 use Rattle.signed.proofs.Sums.{difference_fits, lower_half, upper_half}
 use Rattle.signed.proofs.signed_enumerated.Goals as goal

@@ -1,5 +1,4 @@
 -- `unix_seconds` meets its contract: it is the sum or the difference of the definition, each of which fits.
-use borrow.Author.Rules.{rules}
 use borrow.Author.Tests.{lt-ltb, le-ltb}
 use native.Mathlib.Omega.{arith}
 use Prim.Native.Nat.{◌^◌}

@@ -1,12 +1,9 @@
 -- `seek` meets its contract: the search from `at` finds what the search from `place` does, since every AVP passed so far was complete and
 -- had another code. The measure is what is left of the payload.
-use Prim.Native.Nat.{◌-◌}
 use mathlib.Core.Path.{sym, ◌∙◌}
 use native.Mathlib.Omega.{arith}
-use lib.ListN.{length}
-use borrow.Author.Rules.{rules}
 use Rattle.front.proofs.Fronts.{Turn, turn, stuck}
-use Rattle.steps.proofs.Steps.{Seeking, starts, stops_at_end, stops_at_broken, stops_at_code, goes_on}
+use Rattle.steps.proofs.Steps.{starts, stops_at_end, stops_at_broken, stops_at_code, goes_on}
 use Rattle.steps.proofs.seek.Goals as goal
 use Rattle.steps.proofs.seek.Goals.{After-struct_known-1}
 

@@ -2,7 +2,6 @@
 -- stuck; and else it goes over that AVP.
 use mathlib.Core.Path.{sym, ◌∙◌}
 use native.Mathlib.Omega.{arith}
-use borrow.Author.Rules.{rules}
 use Rattle.front.proofs.Fronts.{Turn, turn, stuck}
 use Rattle.steps.proofs.Steps.{ended, stuck_at, steps}
 use Rattle.steps.proofs.step_at.Goals as goal

@@ -7,7 +7,6 @@ use mir.Syntax.{w32}
 use mir.Val.{SFits, to_z, of_z}
 use mir.ValLaws.{to_z-of_z}
 use borrow.Author.Rules.{rules}
-use borrow.Author.Tests.{not-true, not-false}
 use Rattle.refusal.specs.Answer.{accepted}
 use Rattle.unit_value.specs.UnitValues.{in_range, compared, answer_of}
 use Rattle.unit_value.proofs.compare.Statement.{statement}

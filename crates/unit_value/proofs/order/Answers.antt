@@ -4,7 +4,6 @@ use Prim.Native.Nat.{ℕ, ◌*◌, ◌-◌, ◌^◌, ◌≤◌}
 use mathlib.Core.Path.{◌≡◌, sym, ap, ◌∙◌}
 use native.Mathlib.Omega.{arith}
 use lib.IntN.{pos}
-use borrow.Author.Rules.{rules}
 use Rattle.unit_value.specs.UnitValues.{order, reversed}
 use Rattle.unit_value.proofs.Powers.{power_some, power_moved}
 use Rattle.unit_value.proofs.Wholes.{order_times}

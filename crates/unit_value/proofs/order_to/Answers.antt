@@ -3,7 +3,6 @@
 use Prim.Native.Nat.{◌*◌, ◌^◌}
 use mathlib.Core.Path.{◌≡◌, refl, sym, ◌∙◌}
 use native.Mathlib.Omega.{arith}
-use borrow.Author.Rules.{rules}
 use Rattle.unit_value.proofs.Powers.{no_tens, ten_moved, above}
 use Rattle.unit_value.proofs.Wholes.{less, equal, greater}
 use Rattle.unit_value.proofs.order_to.Goals as goal

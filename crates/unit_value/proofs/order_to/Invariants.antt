@@ -1,11 +1,7 @@
 -- `order_to` meets its contract. The loop's invariant: the product is what it was, since each turn moves a ten from the power to the
 -- other factor. Where ten times that factor is above n, so is the product. The measure is how many tens are left.
 use Prim.Native.Nat.{◌*◌, ◌^◌}
-use mathlib.Core.Path.{◌≡◌, refl, sym, ◌∙◌}
-use native.Mathlib.Omega.{arith}
-use borrow.Author.Rules.{rules}
-use Rattle.unit_value.proofs.Powers.{no_tens, ten_moved, above}
-use Rattle.unit_value.proofs.Wholes.{less, equal, greater}
+use mathlib.Core.Path.{◌≡◌}
 use Rattle.unit_value.proofs.order_to.Given as goal
 
 abbrev pub invariant-loop-k : goal.invariant-loop-k

@@ -8,7 +8,6 @@ use lib.IntN.{pos}
 use lib.Signed.{le_z}
 use mir.Syntax.{w64}
 use mir.Val.{to_z, of_z}
-use borrow.Author.Rules.{rules}
 use Rattle.unit_value.specs.declared.UnitValue.{UnitValue}
 use Rattle.signed.proofs.Signs.{sign_read}
 use Rattle.unit_value.proofs.Scaled.{magnitude, magnitude_read, both_natural, both_negative, natural_negative, negative_natural}

@@ -1,6 +1,5 @@
 -- `is_utf8` meets its contract: each answer of `check` says whether the text is well-formed.
 use mathlib.Core.Path.{sym, ◌∙◌}
-use borrow.Author.Rules.{rules}
 use Rattle.utf8.specs.declared.Utf8.TheVariants.{WellFormed, ValidUpTo}
 use Rattle.utf8.proofs.Answers.{says}
 use Rattle.utf8.proofs.is_utf8.Goals as goal

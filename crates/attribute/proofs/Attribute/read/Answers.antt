@@ -1,6 +1,5 @@
 -- `Attribute::read` meets its contract: the sawp reading is `Attribute::new`; the RFC reading has two rows before the same names,
 -- and a number that neither has goes on to them.
-use borrow.Author.Rules.{rules}
 use Rattle.attribute.specs.Attributes.{attribute_in}
 use Rattle.attribute.proofs.Names.{other_name}
 use Rattle.attribute.proofs.Attribute.read.Goals as goal

@@ -1,5 +1,4 @@
 -- `Reading::dictionary` meets its contract: each arm is a line of the definition.
-use borrow.Author.Rules.{rules}
 use Rattle.attribute.specs.ByTable.{beside_table}
 use Rattle.attribute.proofs.Reading.dictionary.Goals as goal
 

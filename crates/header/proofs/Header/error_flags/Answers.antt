@@ -1,5 +1,4 @@
 -- `error_flags` meets its contract: the flag is raised exactly where a reserved bit is set, which is what `reserved_set` answers.
-use borrow.Author.Rules.{rules}
 use Rattle.header.proofs.Header.error_flags.Goals as goal
 
 pub returns-then-reserved_set : goal.returns-then-reserved_set

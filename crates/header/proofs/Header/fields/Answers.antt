@@ -2,7 +2,6 @@
 -- which are the word's quotient and its remainder.
 use mathlib.Core.Path.{◌∙◌}
 use native.Mathlib.Omega.{arith}
-use borrow.Author.Rules.{rules}
 use lib.ListN.{length-take}
 use Rattle.octets.specs.Octets.{Bytes}
 use Rattle.octets.proofs.Numbers.{be_take, be_part}

@@ -1,5 +1,4 @@
 -- `Step::answer` meets its contract: each arm is its case of the definition.
-use borrow.Author.Rules.{rules}
 use Rattle.steps.specs.Steps.{found_of}
 use Rattle.steps.proofs.Step.answer.Goals as goal
 
