@@ -1,9 +1,9 @@
 -- How long a table's packet is: its header, and its records' lengths. The type of the header's fields says that the authenticator has 16 bytes.
 use Prim.Native.Nat.{ℕ, ◌+◌}
-use mathlib.Core.Path.{◌≡◌, refl, sym, ◌∙◌}
+use mathlib.Core.Path.{◌≡◌, refl, ◌∙◌}
 use mathlib.Core.List.{List, [], ◌∷◌}
 use native.Mathlib.Omega.{arith}
-use lib.ListN.{length, length-append, length-map}
+use lib.ListN.{length, length-append}
 use mir.Val.{Val}
 use denote.Laws.{Is}
 use Rattle.record.specs.Record.{Record}
@@ -24,7 +24,7 @@ run_length pool (r ∷ rs) k =
 
 -- what owning the header's fields tells of their last
 pub sixteen : (f : Fields) (vs : List Val) → Is the_row f vs → length f.authenticator ≡ authenticator_size
-sixteen f vs owned = sym (length-map f.authenticator (λ x. x)) ∙ owned.1.1.1.1.0.1.0.1
+sixteen f vs owned = owned.1.1.1.1.0.1.0.1
 
 module _ (h : Header) (told : length h.authenticator ≡ authenticator_size) where
   pub total_length : (table pool : List ℕ) → Kept (length pool) (table_of table)

@@ -28,6 +28,12 @@ behind_put a b l n {p} {src} {k} long fits ep es ek =
     let back : k ≡ over b (drop n p) = ek ∙ rw (copied, rest p n (omega arith), es) in
     rw (lent n p k, back, ep) (over_more a b l n long)
 
+-- a copy over just as many bytes of a list, behind the first n, leaves what one into all the bytes behind them does
+pub part_copied : (n m : ℕ) (p src : List ℕ) → length src ≡ m → n ≤ length p
+    → put_mid n m p src ≡ put_mid n (length p - n) p (take (length src) src ++ drop (length src) (take (length p - n) (drop n p)))
+unfolding over
+part_copied n m p src e h = rw (lent n p (take (length src) src ++ drop (length src) (take (length p - n) (drop n p))), copied, rest p n h, ← e)
+
 -- ---- an attribute
 
 module _ (pool l : List ℕ) (r : Record) where

@@ -17,7 +17,7 @@ fn emit_attribute(r: Record, pool: &[u8], out: &mut [u8])
     let to = from + (r.length - HEADER_SIZE) as usize;
     out[0] = r.code as u8;
     out[1] = r.length as u8;
-    bytes::copy(&pool[from..to], &mut out[HEADER_SIZE as usize..]);
+    out[HEADER_SIZE as usize..r.length as usize].copy_from_slice(&pool[from..to]);
 }
 
 // Puts the attributes of a table, one after the other.

@@ -44,7 +44,9 @@ impl Fields {
         out[1] = self.identifier;
         out[2] = b[0];
         out[3] = b[1];
-        bytes::copy(&self.authenticator, &mut out[Fields::FRONT..]);
+        out[Fields::FRONT..Fields::FRONT + Fields::AUTHENTICATOR].copy_from_slice(
+            &self.authenticator,
+        );
     }
 }
 

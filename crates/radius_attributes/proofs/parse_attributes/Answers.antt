@@ -1,11 +1,8 @@
 -- `parse_attributes` meets its contract: the places are tested first, what is counted of the run decides between its refusals, and past
 -- them the records fit, and the store is filled with them.
-use Prim.Native.Nat.{◌+◌, ◌≤◌}
 use mathlib.Core.Path.{refl, sym, ◌∙◌}
 use native.Mathlib.Omega.{arith}
-use lib.ListN.{length}
 use Rattle.octets.specs.Run.{tree}
-use Rattle.record.specs.Record.{last_place}
 use Rattle.record.specs.Store.{stored}
 use Rattle.rfc2865.specs.Attribute.{attributes}
 use Rattle.radius_attributes.specs.declared.Counted.TheVariants.{Tiled, Broken}
@@ -13,11 +10,7 @@ use Rattle.radius_attributes.specs.Answers.{answer_of}
 use Rattle.radius_attributes.proofs.Counting.{Was, was}
 use Rattle.radius_attributes.proofs.Answered.{too_long, not_tiled, no_records, accepts, stores}
 use Rattle.radius_attributes.proofs.parse_attributes.Goals as goal
-use Rattle.radius_attributes.proofs.parse_attributes.Goals.{Else-place-s, In-Tiled}
-
--- the places fit
-near : (c : Else-place-s) → c.args.place + length c.args.s.now ≤ last_place
-near c = omega (arith, c.if-place-s.false)
+use Rattle.radius_attributes.proofs.parse_attributes.Goals.{In-Tiled}
 
 -- it tiles, and has so many attributes
 tiled : (c : In-Tiled) → Was (Tiled c.in-Tiled.records) (tree attributes c.args.s.now)
@@ -31,7 +24,7 @@ pub returns-in_default : goal.returns-in_default
 unfolding answer_of stored
 returns-in_default c =
     record {
-      answer = not_tiled _ _ _ (near (goal.at.returns-in_default c).Else-place-s) (was _ Broken (sym c.in_default.is ∙ c.count.ensures));
+      answer = not_tiled _ _ _ (omega arith) (was _ Broken (sym c.in_default.is ∙ c.count.ensures));
       store = refl;
     }
 
@@ -40,7 +33,7 @@ unfolding answer_of stored
 returns-then-store-records c =
     let t = tiled (goal.at.returns-then-store-records c).In-Tiled in
     record {
-      answer = no_records _ _ _ (near (goal.at.returns-then-store-records c).Else-place-s) t.0 _ t.1 (omega arith);
+      answer = no_records _ _ _ (omega arith) t.0 _ t.1 (omega arith);
       store = refl;
     }
 
@@ -51,7 +44,7 @@ fill-errors-requires c =
       s_value = t.0;
       room = record {
         records_fit = omega (arith, t.1, c.if-store-records.false);
-        places_fit = near (goal.at.fill-errors-requires c).Else-place-s;
+        places_fit = omega arith;
       };
     }
 
@@ -60,6 +53,6 @@ returns c =
     let t = tiled (goal.at.returns c).In-Tiled in
     let f = c.fill-errors.ensures in
     record {
-      answer = accepts _ _ _ (near (goal.at.returns c).Else-place-s) t.0 _ t.1 (omega (arith, c.if-store-records.false)) f.errors_are;
+      answer = accepts _ _ _ (omega arith) t.0 _ t.1 (omega (arith, c.if-store-records.false)) f.errors_are;
       store = stores _ _ _ f;
     }
