@@ -1,13 +1,12 @@
 -- The cycle of `count_group` and `count_level` meets its contracts: an AVP is one header and, where it is a group, its payload's run with
 -- one level less.
-use Prim.Native.Nat.{ℕ, ◌+◌, ◌-◌, ◌*◌, ◌^◌, ◌<◌, ◌≤◌}
-use mathlib.Core.Path.{◌≡◌, refl, sym, ap₂, ◌∙◌}
+use Prim.Native.Nat.{ℕ, ◌+◌, ◌-◌, ◌^◌, ◌<◌}
+use mathlib.Core.Path.{◌≡◌, sym, ap₂, ◌∙◌}
 use mathlib.Core.Bool.{Bool, true, cond}
 use mathlib.Core.List.{List}
-use mathlib.Core.Logic.{◌⊎◌, inl, inr}
 use native.Mathlib.Omega.{arith}
 use lib.ListN.{length, drop_of_length-le}
-use Rattle.octets.specs.Run.{item, after, Tree, done, group, broken, tree, tried, deepest}
+use Rattle.octets.specs.Run.{item, after, Tree, done, group, broken, tree, tried}
 use Rattle.octets.proofs.Runs.{tree_none, tree_broken}
 use Rattle.avp.specs.declared.AVP.{AVP}
 use Rattle.rfc6733.specs.Avp.{payload, complete, head_size}
@@ -20,9 +19,9 @@ use Rattle.attribute.specs.ByTable.{dictionary_by}
 use Rattle.front.specs.Front.{avp_of, first_of}
 use Rattle.count.specs.Counts.{level_of}
 use Rattle.count.specs.declared.Level.TheVariants.{Within}
-use Rattle.front.specs.declared.First.TheVariants.{Whole, Broken}
+use Rattle.front.specs.declared.First.TheVariants.{Whole}
 use Rattle.front.proofs.Fronts.{Turn, turn_at, was_whole, was_broken, here}
-use Rattle.count.proofs.Levels.{was_deep, was_counts, within, Known, Passed, none_passed, leaf_passed, group_passed, then_deep, group_deep, then_ends, leaf_first, group_first, some_recorded}
+use Rattle.count.proofs.Levels.{was_deep, was_counts, within, Passed, leaf_passed, group_passed, then_deep, group_deep, then_ends, leaf_first, group_first, some_recorded}
 use Rattle.count.proofs.Lent.{Inside, inside, left_after}
 use Rattle.count.proofs.+count_group_count_level.Goals as goal
 use Rattle.count.proofs.+count_group_count_level.Goals.{count_level-then-kind-eq-GROUPED+in-Within, count_level-then-tiles, count_level-else-tiles, count_level-else-kind-eq-GROUPED}

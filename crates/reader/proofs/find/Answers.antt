@@ -1,11 +1,9 @@
 -- `find` meets its contract: the header's refusals are the answer's, and past them a fresh reader is asked over the message's own bytes.
-use Prim.Native.Nat.{ℕ}
-use mathlib.Core.Path.{◌≡◌, sym, ap, ◌∙◌}
-use mathlib.Core.List.{List}
+use mathlib.Core.Path.{sym, ap, ◌∙◌}
 use native.Mathlib.Omega.{arith}
 use lib.ListN.{length-take}
 use Rattle.header.specs.Parsed as header
-use Rattle.header.proofs.Bodies.{Body, body}
+use Rattle.header.proofs.Bodies.{body}
 use Rattle.steps.specs.Steps.{found_of, answer_of}
 use Rattle.reader.proofs.Answered.{asked, header_refused}
 use Rattle.reader.proofs.find.Goals as goal

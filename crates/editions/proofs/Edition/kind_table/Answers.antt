@@ -3,11 +3,11 @@ use mathlib.Core.Path.{◌≡◌, refl, sym, ap, ap₂, ◌∙◌}
 use mathlib.Core.List.{List, ◌++◌}
 use Prim.Native.Nat.{ℕ, ◌+◌}
 use native.Mathlib.Omega.{arith}
-use lib.ListN.{length, take, drop, replicate}
-use borrow.Rule.Slice.PartMut.{mid_of, put_mid}
+use lib.ListN.{length, drop, replicate}
+use borrow.Rule.Slice.PartMut.{put_mid}
 use Rattle.rfc6733.specs.Dictionary.{rfc}
 use Rattle.record.specs.Rows.{Row, kind_in, table}
-use Rattle.rfc6733.specs.CreditControl.{avps4006, avps8506, rfc4006, rfc8506}
+use Rattle.rfc6733.specs.CreditControl.{avps4006, rfc4006, rfc8506}
 use Rattle.attribute.specs.Attributes as base
 use Rattle.attribute.specs.declared.Reading.TheVariants.{Rfc}
 use Rattle.editions.specs.declared.Edition.TheVariants.{Rfc4006}
