@@ -10,22 +10,22 @@ use Rattle.lines.proofs.Puts.{same_length, Passed, first_passed, all_passed, Rea
 use Rattle.lines.proofs.put_message.Statement.{statement}
 use Rattle.lines.proofs.put_message.Tie as tie
 
-abbrev start : tie.After-put-line → tie.Start
+abbrev start : tie.After-put_line-at → tie.Start
 start c = c.before.before.before.before.before.before
 
 -- its own line is put, and there is room for the others
-first : (c : tie.After-put-line)
+first : (c : tie.After-put_line-at)
     → let b = (start c).args in
-    Passed (message_text (message_as b.m).counts b.table.now) (records_text b.m.records b.table.now ++ []) b.out.now c.put-line.new.1.0 c.put-line.result
+    Passed (message_text (message_as b.m).counts b.table.now) (records_text b.m.records b.table.now ++ []) b.out.now c.put_line-at.new.out c.put_line-at.result
 unfolding message_as
-first c = first_passed (records_text (start c).args.m.records (start c).args.table.now) c.put-line.ensures
+first c = first_passed (records_text (start c).args.m.records (start c).args.table.now) c.put_line-at.ensures
 
-room : (c : tie.After-put-line)
+room : (c : tie.After-put_line-at)
     → let b = (start c).args in
-    Ready (records_text b.m.records b.table.now) b.out.now c.put-line.new.1.0 c.put-line.result
+    Ready (records_text b.m.records b.table.now) b.out.now c.put_line-at.new.out c.put_line-at.result
 room c = ready _ [] (first c) (start c).requires.fits
 
-put-line-requires : tie.Need-put-line-requires
+put-line-requires : tie.Need-put_line-at-requires
 unfolding message_as
 put-line-requires c κs =
     let b = c.before.before.before.before.before in
@@ -35,10 +35,10 @@ put-line-requires c κs =
 returns : tie.Need-returns
 returns c =
     let p = c.before.before.before.before.before.before in
-    all_passed (passed _ [] (first p) (start p).requires.fits c.before.before.put-records.ensures)
+    all_passed (passed _ [] (first p) (start p).requires.fits c.put_records.ensures)
 
-pub put-message-spec : {M : Type 1} → statement M
-put-message-spec =
+pub put_message_spec : {M : Type 1} → statement M
+put_message_spec =
     tie.close
     (tie.spec
     (λ c. search rules)
@@ -48,6 +48,6 @@ put-message-spec =
     (λ c. omega (arith, room c.before.before))
     (λ c. search rules)
     (λ c κs. record { stored = (start c.before.before.before).requires.stored; fits = room_left (room c.before.before.before) })
-    (λ c. omega (arith, room c.before.before.before.before.before.before, c.before.before.put-records.ensures.size_is))
+    (λ c. omega (arith, room c.before.before.before.before.before.before, c.put_records.ensures.size_is))
     (λ c. same_length (returns c) (start c.before.before.before.before.before.before).requires.fits)
     returns)

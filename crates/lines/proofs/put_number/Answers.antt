@@ -1,5 +1,5 @@
 -- `put_number` meets its contract: the kit's digits are the definition's, and the byte is put after as many as there are.
-use Rattle.std.proofs.Common.{◌≡◌, ◌∙◌, sym, arith, length-take}
+use Rattle.std.proofs.Common.{◌∙◌, sym, arith, length-take}
 use Rattle.lines.proofs.Decimals.{spelled}
 use Rattle.lines.proofs.Puts.{front_put, put_byte, same_length}
 use Rattle.lines.proofs.put_number.Goals as goal
