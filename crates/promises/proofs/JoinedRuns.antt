@@ -30,14 +30,14 @@ use Rattle.avps.specs.declared.Filled.{Filled}
 use Rattle.avps.specs.declared.Filled.TheVariants as filled
 use Rattle.avps.specs.Answers.{run_answer, answer_of, counts_as}
 use Rattle.avps.proofs.AnswerOf.{answer_of_injective}
-use Rattle.promises.proofs.OneOutcome.Calls.{Slice, ParseAvps}
+use Rattle.promises.proofs.OneOutcome.Calls.{Slice, MutSlice, ParseAvps}
 
 -- a call that answered r, of a run that stands at a place
 pub record RunCall (d : attribute.Dictionary) (kinds : Slice) (limit place : ℕ) (r : Filled) : Type 0 where
   pub lifetimes : Lfts 3
   pub input : Slice
-  pub store : Slice
-  pub store' : Slice
+  pub store : MutSlice
+  pub store' : MutSlice
   pub answered : ParseAvps lifetimes d kinds limit input place store r store'
 
 -- both are accepted as one run; the first's records and then the second's, shifted, are in the store, before zeros

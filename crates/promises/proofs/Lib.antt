@@ -14,7 +14,6 @@ pub mod Broken
 pub mod Packets
 pub mod Parents
 mod Tables
-pub mod Damage
 pub mod Joining
 pub mod JoinedRefusals
 pub mod JoinedRuns

@@ -7,7 +7,7 @@ use mathlib.Core.Path.{◌≡◌, sym, ap₂, ◌∙◌}
 use mathlib.Core.Bool.{Bool}
 use lib.IntN.{ℤ}
 use contract.Lifetimes.{Lfts}
-use denote.Ref.{Bor}
+use denote.Ref.{MutBor}
 use Rattle.attribute.specs.declared.Reading.{Reading}
 use Rattle.attribute.specs.declared.Dictionary.{Dictionary}
 use Rattle.header.specs.declared.Header.{Header}
@@ -135,11 +135,11 @@ abbrev Single {i j k l m} : {K : Type i} {A : K → Type j} {R : K → Type k} {
 Single {K = K} {A = A} {R = R} {S = S} Post = (κs : K) (a : A κs) (r r' : R κs) (s : S κs) → Post κs a r s → Post κs a r' s → r ≡ r'
 
 -- And where it may change what is behind a reference, a slice or a struct: the results are the same, and what is there afterwards.
-abbrev Settled : {R A : Type 0} → (R → Bor A → Type 0) → Type 0
-Settled {R = R} {A = A} Call = (r r' : R) (after after' : Bor A) → Call r after → Call r' after' → (r ≡ r') × (after.now ≡ after'.now)
+abbrev Settled : {R A : Type 0} → (R → MutBor A → Type 0) → Type 0
+Settled {R = R} {A = A} Call = (r r' : R) (after after' : MutBor A) → Call r after → Call r' after' → (r ≡ r') × (after.now ≡ after'.now)
 
 -- The library answers by a slice too: what each of the two holds afterwards is the same.
-abbrev BothSettled : (Slice → Slice → Type 0) → Type 0
+abbrev BothSettled : (MutSlice → MutSlice → Type 0) → Type 0
 BothSettled Call =
     (after after' result result' : MutSlice) → Call after result → Call after' result' → (after.now ≡ after'.now) × (result.now ≡ result'.now)
 
@@ -364,10 +364,10 @@ reader_new_one message r r' p q = whole (p.0 ∙ sym q.0) (p.1 ∙ sym q.1)
     whole : r.payload ≡ r'.payload → r.place ≡ r'.place → r ≡ r'
     whole e f = ap₂ (λ (payload : Slice) (place : ℕ). record { payload = payload; place = place }) e f
 
-reader_next_one : (self : Bor Reader) → Settled (ReaderNext self)
+reader_next_one : (self : MutBor Reader) → Settled (ReaderNext self)
 reader_next_one self r r' after after' p q = (p.found_is ∙ sym q.found_is, p.reader_is ∙ sym q.reader_is)
 
-reader_find_one : (self : Bor Reader) (code : ℕ) → Settled (ReaderFind self code)
+reader_find_one : (self : MutBor Reader) (code : ℕ) → Settled (ReaderFind self code)
 reader_find_one self code r r' after after' p q = (p.found_is ∙ sym q.found_is, p.reader_is ∙ sym q.reader_is)
 
 next_one : Single next.Post
@@ -385,7 +385,7 @@ put_found_one : (κs : Lfts 1) (store : MutSlice) (kind errors value : ℕ) (aft
     → PutFound κs store kind errors value after' → after.now ≡ after'.now
 put_found_one κs store kind errors value after after' p q = p ∙ sym q
 
-put_place_and_parent_one : (κs : Lfts 1) (table : Slice) (place parent : ℕ) (after after' : MutSlice)
+put_place_and_parent_one : (κs : Lfts 1) (table : MutSlice) (place parent : ℕ) (after after' : MutSlice)
     → PutPlaceAndParent κs table place parent after → PutPlaceAndParent κs table place parent after' → after.now ≡ after'.now
 put_place_and_parent_one κs table place parent after after' p q = p ∙ sym q
 
@@ -489,7 +489,7 @@ record_header_size_one κs a r r' s p q = p ∙ sym q
 check_table_one : Single check_table.Post
 check_table_one κs a r r' s p q = p ∙ sym q
 
-shift_one : (κs : Lfts 1) (table : Slice) (bytes records : ℕ) → Settled (Shift κs table bytes records)
+shift_one : (κs : Lfts 1) (table : MutSlice) (bytes records : ℕ) → Settled (Shift κs table bytes records)
 shift_one κs table bytes records r r' after after' p q =
     let e = shift_answers.answer_of_injective r r' (p.0 ∙ sym q.0) in
     let at_exit = p.1 in
@@ -625,7 +625,7 @@ tandrekily_write_one : (κs : Lfts 4) (flags code app_id hop_id end_id : ℕ) (t
     → BothSettled (TandrekilyWrite κs flags code app_id hop_id end_id table pool out result)
 tandrekily_write_one κs flags code app_id hop_id end_id table pool out result _ _ _ _ p q = (p.1 ∙ sym q.1, p.0 ∙ sym q.0)
 
-tandrekily_shift_one : (κs : Lfts 2) (table : Slice) (bytes records : ℕ) (result : MutSlice) → BothSettled (TandrekilyShift κs table bytes records result)
+tandrekily_shift_one : (κs : Lfts 2) (table : MutSlice) (bytes records : ℕ) (result : MutSlice) → BothSettled (TandrekilyShift κs table bytes records result)
 tandrekily_shift_one κs table bytes records result _ _ _ _ p q = (p.1 ∙ sym q.1, p.0 ∙ sym q.0)
 
 tandrekily_is_utf8_one : Single tandrekily_is_utf8.Post
@@ -643,11 +643,11 @@ tandrekily_integer32_one κs a r r' s p q = p ∙ sym q
 tandrekily_integer64_one : Single tandrekily_integer64.Post
 tandrekily_integer64_one κs a r r' s p q = p ∙ sym q
 
-tandrekily_compare_one : (κs : Lfts 1) (digits exponent other_digits other_exponent : ℤ) (order : Bor ℤ)
+tandrekily_compare_one : (κs : Lfts 1) (digits exponent other_digits other_exponent : ℤ) (order : MutBor ℤ)
     → Settled (TandrekilyCompare κs digits exponent other_digits other_exponent order)
 tandrekily_compare_one κs digits exponent other_digits other_exponent order r r' after after' p q = (p.0 ∙ sym q.0, p.1 ∙ sym q.1)
 
-tandrekily_radius_one : (κs : Lfts 4) (input : Slice) (store : MutSlice) (authenticator : Slice) (result : MutSlice) (after after' given given' told told' : MutSlice)
+tandrekily_radius_one : (κs : Lfts 4) (input : Slice) (store authenticator result : MutSlice) (after after' given given' told told' : MutSlice)
     → TandrekilyRadius κs input store authenticator result after given told → TandrekilyRadius κs input store authenticator result after' given' told'
     → (after.now ≡ after'.now) × (given.now ≡ given'.now) × (told.now ≡ told'.now)
 tandrekily_radius_one κs input store authenticator result after after' given given' told told' p q =

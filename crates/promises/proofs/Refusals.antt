@@ -8,7 +8,7 @@ use native.Mathlib.Omega.{arith}
 use lib.ListN.{get_or}
 use contract.Lifetimes.{Lfts}
 use lib.IntN.{ℤ}
-use denote.Ref.{Bor}
+use denote.Ref.{MutBor}
 use Rattle.refusal.specs.Answer.{Refusal, Answer, accepted, refused}
 use Rattle.record.specs.Record.{Record}
 use Rattle.rfc6733.specs.Decoder.{Message}
@@ -73,7 +73,7 @@ pub write_packet_refusal_changes_nothing : (κs : Lfts 3) (fields : packet.Field
 unfolding writer_answers.answer_of output
 write_packet_refusal_changes_nothing κs fields table pool out why out' p = p.1
 
-pub shift_refusal_changes_nothing : (κs : Lfts 1) (table : Slice) (bytes records : ℕ) (why : Refusal) (table' : Slice)
+pub shift_refusal_changes_nothing : (κs : Lfts 1) (table : MutSlice) (bytes records : ℕ) (why : Refusal) (table' : MutSlice)
     → Shift κs table bytes records (shifting.Refused why) table' → table'.now ≡ table.now
 unfolding shifting_answers.answer_of table_after
 shift_refusal_changes_nothing κs table bytes records why table' p = p.1
@@ -128,7 +128,7 @@ unfolding shifted_result table_after
 moved_table bytes records x table =
     lent_unless_0 shifted_result (λ y. table_after bytes records y table) table (λ n. refl) (λ why. refl) x
 
-pub tandrekily_shift_refusal_changes_nothing : (κs : Lfts 2) (table : Slice) (bytes records : ℕ) (result : MutSlice) (table' : Slice) (result' : MutSlice)
+pub tandrekily_shift_refusal_changes_nothing : (κs : Lfts 2) (table : MutSlice) (bytes records : ℕ) (result table' result' : MutSlice)
     → TandrekilyShift κs table bytes records result table' result' → 1 ≤ number result'.now → table'.now ≡ table.now
 tandrekily_shift_refusal_changes_nothing κs table bytes records result table' result' p h = p.1 ∙ moved_table _ _ _ _ (rw p.0 at h)
 
@@ -138,7 +138,7 @@ unfolding number_shown order_shown
 order_lent (accepted o) lent h = absurd (omega arith)
 order_lent (refused why) lent h = refl
 
-pub tandrekily_compare_refusal_changes_nothing : (κs : Lfts 1) (digits exponent other_digits other_exponent : ℤ) (order : Bor ℤ) (r : ℕ) (order' : Bor ℤ)
+pub tandrekily_compare_refusal_changes_nothing : (κs : Lfts 1) (digits exponent other_digits other_exponent : ℤ) (order : MutBor ℤ) (r : ℕ) (order' : MutBor ℤ)
     → TandrekilyCompare κs digits exponent other_digits other_exponent order r order' → 1 ≤ r → order'.now ≡ order.now
 tandrekily_compare_refusal_changes_nothing κs digits exponent other_digits other_exponent order r order' p h =
     p.1 ∙ order_lent _ _ (rw p.0 at h)
@@ -157,7 +157,7 @@ packet_out : (x : Answer ℕ) (bytes out : List ℕ) → 1 ≤ number (packets.w
 unfolding packets.written_result output
 packet_out x bytes out = lent_unless_0 packets.written_result (λ y. output y bytes out) out (λ total. refl) (λ why. refl) x
 
-pub tandrekily_radius_refusal_changes_nothing : (κs : Lfts 4) (input : Slice) (store : MutSlice) (authenticator : Slice) (result store' : MutSlice) (authenticator' : Slice) (result' : MutSlice)
+pub tandrekily_radius_refusal_changes_nothing : (κs : Lfts 4) (input : Slice) (store authenticator result store' authenticator' result' : MutSlice)
     → TandrekilyRadius κs input store authenticator result store' authenticator' result' → 1 ≤ number result'.now
     → (store'.now ≡ store.now) × (authenticator'.now ≡ authenticator.now)
 tandrekily_radius_refusal_changes_nothing κs input store authenticator result store' authenticator' result' p h =

@@ -49,7 +49,7 @@ Known (reading r) = Unit {0}
 Known (edition n) = is_edition n ≡ true
 
 -- a call, as the contract of its function says it
-abbrev pub Decode : Way → Lfts 2 → ℕ → Slice → Slice → Decoded → Slice → Type 0
+abbrev pub Decode : Way → Lfts 2 → ℕ → Slice → MutSlice → Decoded → MutSlice → Type 0
 Decode (reading r) κs limit input store d store' = Parse κs r limit input store d store'
 Decode (edition n) κs limit input store d store' = ParseBy κs n limit input store d store'
 
@@ -57,8 +57,8 @@ Decode (edition n) κs limit input store d store' = ParseBy κs n limit input st
 pub record Call (way : Way) (limit : ℕ) (r : Decoded) : Type 0 where
   pub lifetimes : Lfts 2
   pub input : Slice
-  pub store : Slice
-  pub store' : Slice
+  pub store : MutSlice
+  pub store' : MutSlice
   pub answered : Decode way lifetimes limit input store r store'
   pub bytes : Bytes input.now
 
@@ -91,7 +91,7 @@ refuses (edition n) κs limit input store why store' later p =
 
 -- ---- one AVP alone
 
-abbrev pub DecodeAlone : Way → Lfts 2 → ℕ → Slice → Slice → Filled → Slice → Type 0
+abbrev pub DecodeAlone : Way → Lfts 2 → ℕ → Slice → MutSlice → Filled → MutSlice → Type 0
 DecodeAlone (reading r) κs limit input store d store' = ParseAvp κs r limit input store d store'
 DecodeAlone (edition n) κs limit input store d store' = ParseAvpBy κs n limit input store d store'
 
