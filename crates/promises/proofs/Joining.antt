@@ -35,7 +35,7 @@ use Rattle.diameter.specs.declared.Message.{Message}
 use Rattle.diameter.specs.declared.Decoded.{Decoded}
 use Rattle.diameter.specs.declared.Decoded.TheVariants.{Accepted, Refused}
 use Rattle.diameter.specs.Answers.{answer_of, message_as}
-use Rattle.promises.proofs.OneOutcome.Calls.{Slice, Shift}
+use Rattle.promises.proofs.OneOutcome.Calls.{MutSlice, Shift}
 use Rattle.promises.proofs.Ways.{Way, dictionary_of, Call, Decodes, decodes, lawful, address_small}
 use Rattle.promises.proofs.RoundTrip.{left}
 use Rattle.promises.proofs.Tables.{records_read, told, records_left_lem}
@@ -159,7 +159,7 @@ module _ {way : Way} {limit : ℕ} {m n : Message} {r : Decoded}
         second_errors = ap errors of_second;
       }
 
-  module _ (κs : Lfts 1) (table : Slice) (moved : Shifted) (table' : Slice)
+  module _ (κs : Lfts 1) (table : MutSlice) (moved : Shifted) (table' : MutSlice)
       (call : Shift κs table (m.length - header_size) m.records moved table')
       (is : table.now ≡ take (n.records * record_size) second.store'.now) where
     abbrev rs : List Record
@@ -216,7 +216,7 @@ joined_messages way limit m n r first second both asks fits = joined_in first se
 pub shifted_behind : (way : Way) (limit : ℕ) (m n : Message) (r : Decoded)
     (first : Call way limit (Accepted m)) (second : Call way limit (Accepted n)) (both : Call way limit r)
     → AsksBoth first second both → m.records + n.records ≤ room both.store.now
-    → (κs : Lfts 1) (table : Slice) (moved : Shifted) (table' : Slice)
+    → (κs : Lfts 1) (table : MutSlice) (moved : Shifted) (table' : MutSlice)
     → Shift κs table (m.length - header_size) m.records moved table'
     → table.now ≡ take (n.records * record_size) second.store'.now
     → MovedBehind first second both moved table'.now

@@ -1,5 +1,4 @@
 -- `parse_avp` meets its contract: the table that it makes, with what is beside it, is the reading's dictionary.
-use borrow.Author.Rules.{rules}
 use Rattle.attribute.proofs.Dictionaries.{dictionary_by_table}
 use Rattle.avp_alone.proofs.parse_avp.Goals as goal
 

@@ -1,7 +1,6 @@
 -- `parse_avp_by` meets its contract: a number that is no edition is refused as the definition says. The table of one that is chosen, with what
 -- the RFC reading has beside it, is the dictionary of its number.
 use mathlib.Core.Path.{refl, sym, ap, ◌∙◌}
-use borrow.Author.Rules.{rules}
 use Rattle.refusal.specs.Answer.{refused}
 use Rattle.record.specs.Store.{stored}
 use Rattle.rfc6733.proofs.Editions.{alone_by, alone_by_none}

@@ -2,14 +2,9 @@
 -- to `parse_one`, whose contract is the same.
 use mathlib.Core.Path.{◌≡◌, refl, sym, ap, ◌∙◌}
 use mathlib.Core.Bool.{true}
-use lib.ListN.{length}
-use borrow.Author.Rules.{rules}
-use borrow.Author.Tests.{not-true, not-false}
-use Rattle.refusal.specs.Answer.{Refusal, refused}
-use Rattle.rfc6733.specs.Decoder.{allowed, avp_alone}
-use Rattle.record.specs.Store.{capacity, stored}
+use Rattle.rfc6733.specs.Decoder.{allowed}
+use Rattle.record.specs.Store.{stored}
 use Rattle.rfc6733.proofs.Decoded.{alone_limit_bad, front_refused}
-use Rattle.attribute.specs.ByTable.{dictionary_by}
 use Rattle.avps.specs.Answers as avps
 use Rattle.front.specs.Front as front
 use Rattle.front.proofs.Fronts.{was_accepted, here}

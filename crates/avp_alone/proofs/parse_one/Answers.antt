@@ -3,7 +3,6 @@ use Prim.Native.Nat.{◌≤◌}
 use mathlib.Core.Path.{◌∙◌}
 use native.Mathlib.Omega.{arith}
 use lib.ListN.{length, length-take}
-use borrow.Author.Rules.{rules}
 use Rattle.octets.proofs.Numbers.{be_small}
 use Rattle.rfc6733.proofs.Complete.{sizes, complete_whole}
 use Rattle.record.specs.Record.{last_place}

@@ -1,7 +1,6 @@
 -- `fill_store` meets its contract: the run is read, and what its records leave of the store is cleared, so the store holds the records and zero
 -- to its last byte. The first of them is the first of all, so their parents are those that their depths tell.
 use native.Mathlib.Omega.{arith}
-use borrow.Author.Rules.{rules}
 use Rattle.octets.specs.Run.{tree}
 use Rattle.record.proofs.Cleared.{cleared}
 use Rattle.record.specs.Record.{laid}

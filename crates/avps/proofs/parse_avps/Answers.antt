@@ -2,7 +2,6 @@
 -- the fill asks for: a limit that is allowed is within the levels that the fill has.
 use mathlib.Core.Path.{refl, sym, ap, ◌∙◌}
 use native.Mathlib.Omega.{arith}
-use borrow.Author.Rules.{rules}
 use borrow.Author.Tests.{eqb-true}
 use Rattle.record.specs.Store.{room, stored}
 use Rattle.rfc6733.proofs.Decoded.{allowed_most}

@@ -1,5 +1,4 @@
 -- `parse` meets its contract: the table that it makes, with what is beside it, is the reading's dictionary.
-use borrow.Author.Rules.{rules}
 use Rattle.attribute.proofs.Dictionaries.{dictionary_by_table}
 use Rattle.diameter.proofs.parse.Goals as goal
 

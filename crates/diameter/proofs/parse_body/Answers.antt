@@ -3,7 +3,6 @@
 use Prim.Native.Nat.{◌≤◌}
 use mathlib.Core.Path.{refl}
 use native.Mathlib.Omega.{arith}
-use borrow.Author.Rules.{rules}
 use Rattle.record.specs.Store.{stored}
 use Rattle.avps.specs.Answers as avps
 use Rattle.record.specs.Record.{last_place}

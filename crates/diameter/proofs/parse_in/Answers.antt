@@ -2,14 +2,9 @@
 -- to `parse_body`, whose contract is the same.
 use mathlib.Core.Path.{◌≡◌, refl, sym, ap, ◌∙◌}
 use mathlib.Core.Bool.{true}
-use lib.ListN.{length}
-use borrow.Author.Rules.{rules}
-use borrow.Author.Tests.{not-true, not-false}
-use Rattle.refusal.specs.Answer.{Refusal, refused}
-use Rattle.rfc6733.specs.Decoder.{allowed, decoded}
-use Rattle.record.specs.Store.{capacity, stored}
+use Rattle.rfc6733.specs.Decoder.{allowed}
+use Rattle.record.specs.Store.{stored}
 use Rattle.rfc6733.proofs.Decoded.{message_limit_bad, header_refused}
-use Rattle.attribute.specs.ByTable.{dictionary_by}
 use Rattle.header.specs.Parsed as header
 use Rattle.diameter.specs.Answers.{answer_of}
 use Rattle.diameter.proofs.parse_in.Goals as goal

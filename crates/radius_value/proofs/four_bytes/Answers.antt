@@ -1,7 +1,6 @@
 -- `four_bytes` meets its contract: its test is the definition's, on the same length, and past it the four bytes are the number.
 use native.Mathlib.Omega.{arith}
 use lib.ListN.{length}
-use borrow.Author.Rules.{rules}
 use borrow.Author.Tests.{eq-eqb, ne_eqb}
 use Rattle.octets.proofs.Numbers.{read_at}
 use Rattle.rfc2865.specs.Records.{four_bytes}

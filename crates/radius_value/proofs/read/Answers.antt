@@ -1,6 +1,5 @@
 -- `read` meets its contract: each arm is the definition's case for the kinds that it lists.
 use mathlib.Core.Logic.{inl, inr}
-use borrow.Author.Rules.{rules}
 use borrow.Author.Tests.{ne_eqb}
 use Rattle.record.specs.Kinds.{unsigned32, utf8_string, address}
 use Rattle.rfc2865.specs.Records.{data_as}

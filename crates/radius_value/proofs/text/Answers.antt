@@ -1,6 +1,5 @@
 -- `text` meets its contract: each arm makes what the definition has for the answer that it matched.
 use mathlib.Core.Path.{sym, ◌∙◌}
-use borrow.Author.Rules.{rules}
 use Rattle.record.specs.Value as values
 use Rattle.utf8.specs.declared.Utf8.TheVariants.{WellFormed, ValidUpTo}
 use Rattle.utf8.proofs.Answers.{says}

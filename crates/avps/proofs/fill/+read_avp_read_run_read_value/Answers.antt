@@ -1,21 +1,19 @@
 -- `read_run`, `read_avp` and `read_value` meet their contracts, which are proved together since each calls the next and the last the first.
 -- A run's records are those of its AVPs one after the other (`Filling`); an AVP's are its own and its members' (`OwnRecord`); and the data
 -- of an AVP are entered where their value is Grouped (`Entering`). The levels left fall when a group is entered.
-use Prim.Native.Nat.{ℕ, ◌+◌, ◌-◌, ◌*◌, ◌≤◌, ◌<◌}
+use Prim.Native.Nat.{ℕ, ◌-◌, ◌≤◌}
 use mathlib.Core.Path.{◌≡◌, refl, sym, ap, ◌∙◌}
 use mathlib.Core.Bool.{Bool, true, ◌||◌}
 use mathlib.Core.List.{List}
 use native.Mathlib.Omega.{arith}
 use lib.ListN.{length, take, drop}
 use lib.Seq.{length-take-le}
-use Rattle.octets.specs.Run.{Tree, tree, tiles}
 use Rattle.octets.proofs.Lists.{rest}
 use Rattle.avp.specs.declared.AVP.{AVP}
 use Rattle.record.specs.Record.{Record, record_size}
 use Rattle.record.specs.Store.{put}
 use Rattle.rfc6733.specs.Avp.{complete}
-use Rattle.rfc6733.specs.Dictionary.{Dictionary}
-use Rattle.rfc6733.specs.Records.{avps, tiling}
+use Rattle.rfc6733.specs.Records.{tiling}
 use Rattle.attribute.specs.declared.Dictionary as attribute
 use Rattle.attribute.specs.ByTable.{dictionary_by, known, address_by}
 use Rattle.attribute.proofs.Dictionaries.{kind_is_known}
@@ -24,11 +22,11 @@ use Rattle.value.specs.Values.{Shows, value_if, new_value}
 use Rattle.front.specs.Front.{avp_of}
 use Rattle.front.proofs.Fronts.{Turn, turn_at}
 use Rattle.count.proofs.Lent.{own}
-use Rattle.avps.specs.Fill.{Tiled, own_record, depth_at}
-use Rattle.avps.proofs.Filling.{Filling, nothing_filled, never_stuck, all_filled, room_for_one, one_filled}
-use Rattle.avps.proofs.OwnRecord.{Opened, opened, standing, behind, behind_room, standing_length, room_for_own, level_for_own, placed, members_tile, room_for_members, avp_written}
+use Rattle.avps.specs.Fill.{Tiled}
+use Rattle.avps.proofs.Filling.{nothing_filled, never_stuck, all_filled, room_for_one, one_filled}
+use Rattle.avps.proofs.OwnRecord.{opened, standing, behind, behind_room, standing_length, room_for_own, level_for_own, placed, members_tile, room_for_members, avp_written}
 use Rattle.avps.proofs.OtherKinds.{other_address}
-use Rattle.avps.proofs.Entering.{Group, known_value, a_group, no_members, members_written}
+use Rattle.avps.proofs.Entering.{known_value, a_group, no_members, members_written}
 use Rattle.avps.proofs.fill.+read_avp_read_run_read_value.Goals as goal
 
 -- ---- `read_avp`
@@ -90,8 +88,7 @@ read_avp-read_value-value-requires t c =
     let o = opened c.requires.a_value.0 x c.header_size-from.ensures in
     let room = room_for_own D o x c.requires.room in
     let first = c.put.ensures.store ∙ ap (λ (r : Record). put r (take record_size c.args.store.now)) c.own_record.ensures in
-    let stands = standing_length _ c.args.store.now c.put.new.store room first in
-    (
+    let stands = standing_length _ c.args.store.now c.put.new.store room first in (
       omega arith,
       (
         (level_for_own D o x c.requires.room, members_tile D o x c.requires.room),
@@ -193,7 +190,6 @@ read_run-returns t c =
     rw c.group_before-parent.ensures at (all_filled _ _ c.loop-at.invariant.1 c.loop-at-test.false)
 
 -- ---- `read_value`
-
 
 -- the value is that of the dictionary's kind
 value_shown : (d : attribute.Dictionary) (kinds : List ℕ) (code vendor k : ℕ) (s : List ℕ) (whole : Bool) (r : Read)

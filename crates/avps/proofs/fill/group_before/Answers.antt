@@ -1,5 +1,4 @@
 -- `group_before` meets its contract: each branch is the definition's, and what comes before an index that fits four bytes fits them too.
-use borrow.Author.Rules.{rules}
 use borrow.Author.Tests.{eq-eqb, ne_eqb}
 use Rattle.avps.proofs.fill.group_before.Goals as goal
 

@@ -1,5 +1,4 @@
 -- `own_errors` meets its contract: each flag is raised by its own test, and the two are joined.
-use borrow.Author.Rules.{rules}
 use Rattle.avps.proofs.fill.own_errors.Goals as goal
 
 pub returns : goal.returns

@@ -1,7 +1,6 @@
 -- `vendor_id` meets its contract: with the vendor bit the header is 12 bytes, and bytes 8 to 11 are the vendor.
 use mathlib.Core.Path.{sym, ◌∙◌}
 use native.Mathlib.Omega.{arith}
-use borrow.Author.Rules.{rules}
 use Rattle.rfc6733.specs.Avp.{flags}
 use Rattle.rfc6733.proofs.Complete.{head}
 use Rattle.front.proofs.Fields.{Vendored, with_vendor, without_vendor}

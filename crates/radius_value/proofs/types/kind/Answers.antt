@@ -4,7 +4,6 @@ use Prim.Native.Nat.{ℕ, ◌≤◌}
 use mathlib.Core.Path.{◌≡◌, sym, ◌∙◌}
 use native.Mathlib.Omega.{arith}
 use lib.ListN.{get_or, get_or-eq_default}
-use borrow.Author.Rules.{rules}
 use Rattle.record.specs.Kinds.{unhandled}
 use Rattle.record.specs.Rows.{kind_in, table}
 use Rattle.record.proofs.Rows.{entry_of}
