@@ -1,5 +1,5 @@
--- Calls of the functions that are proved by hand, since they have a struct that holds a reference. Of such a contract the check reads no
--- `Post`; so what its clause says is written here, and that the clause as read from the source says just that is `refl`.
+-- Calls of the methods of `Reader`, a struct that holds a reference. What the clause of each says is written here by hand, and that the clause
+-- as read from the source says just that is `refl`.
 use mathlib.Core.Path.{◌≡◌, refl}
 use mathlib.Core.List.{List}
 use Prim.Native.Nat.{ℕ}
