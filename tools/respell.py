@@ -3,7 +3,7 @@
 
 usage: tools/respell.py [--check] OLD     OLD: a checkout of the commit before the port, whose names the pages and edits have
 
-It was run once, after /opt/rattle/port/port.py. A name is the repository's own where a file of specs/ or proofs/ declares or
+It was run once, after the port.py of the kit. A name is the repository's own where a file of specs/ or proofs/ declares or
 binds it. Functions of src/, strings and exported C names are not touched: none of them is spelled with a dash or a capital
 inside. Prints each name that would meet another one in a file; nothing is written while there is one.
 """
