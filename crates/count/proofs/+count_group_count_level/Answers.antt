@@ -16,20 +16,16 @@ use Rattle.rfc6733.specs.Dictionary.{Dictionary}
 use Rattle.rfc6733.proofs.Items.{sound}
 use Rattle.rfc6733.proofs.Alone.{some_tried}
 use Rattle.attribute.specs.ByTable.{dictionary_by}
-use Rattle.front.specs.Front.{avp_of, first_of}
+use Rattle.front.specs.Front.{avp_of}
 use Rattle.count.specs.Counts.{level_of}
 use Rattle.count.specs.declared.Level.TheVariants.{Within}
-use Rattle.front.specs.declared.First.TheVariants.{Whole}
 use Rattle.front.proofs.Fronts.{Turn, turn_at, was_whole, was_broken, here}
 use Rattle.count.proofs.Levels.{was_deep, was_counts, within, Passed, leaf_passed, group_passed, then_deep, group_deep, then_ends, leaf_first, group_first, some_recorded}
 use Rattle.count.proofs.Lent.{Inside, inside, left_after}
 use Rattle.count.proofs.+count_group_count_level.Goals as goal
-use Rattle.count.proofs.+count_group_count_level.Goals.{count_level-then-kind-eq-GROUPED+in-Within, count_level-then-tiles, count_level-else-tiles, count_level-else-kind-eq-GROUPED}
+use Rattle.count.proofs.+count_group_count_level.Goals.{count_level-then-kind-eq-GROUPED+in-Within, count_level-then-tiles, count_level-else-tiles, count_level-else-kind-eq-GROUPED, count_level-In-Whole}
 
--- ---- an AVP is at the front of what is left
-
-found : (s : List ℕ) (a : AVP) → Whole a ≡ first_of s → Turn s 0 a
-found s a e = let w = was_whole s a e in turn_at s 0 a w.0 w.1
+-- ---- an AVP is at the front of what is left, and is passed
 
 module _ (D : Dictionary) (s : List ℕ) (a : AVP) (f : Turn s 0 a) (k : ℕ) (told : k ≡ D.kind a.code a.vendor_id) where
   -- its kind is the dictionary's
@@ -74,6 +70,12 @@ count_group-returns t c = rw (lent_inside _ _ _ c.requires c.header_size-from.en
 
 -- ---- the goals of `count_level`
 
+-- an AVP was found
+found : (t : ℕ) (c : count_level-In-Whole t) → Turn c.loop-rest.rest.now 0 c.in-Whole.a
+found t c =
+    let w = was_whole c.loop-rest.rest.now c.in-Whole.a (sym c.in-Whole.is ∙ c.first_avp.ensures) in
+    turn_at c.loop-rest.rest.now 0 c.in-Whole.a w.0 w.1
+
 pub count_level-returns-then-left-eq0 : goal.count_level-returns-then-left-eq0
 count_level-returns-then-left-eq0 t c =
     let d = some_tried (dictionary_by c.args.d c.args.kinds.now) c.loop-rest.rest.now (omega arith) in
@@ -95,26 +97,26 @@ count_level-returns-in_default t c =
 pub count_level-overflow_add-records : goal.count_level-overflow_add-records
 count_level-overflow_add-records t c =
     let D = dictionary_by c.args.d c.args.kinds.now in
-    let f = found c.loop-rest.rest.now c.in-Whole.a (sym c.in-Whole.is ∙ c.first_avp.ensures) in
+    let f = found t (goal.at.count_level-overflow_add-records t c).In-Whole in
     let r = some_recorded D c.loop-rest.rest.now f.complete_here in
     omega (arith, fits D c.args.s.now c.loop-rest.invariant (omega arith))
 
 pub count_level-count_group-requires : goal.count_level-count_group-requires
 count_level-count_group-requires t c =
-    let f = found c.loop-rest.rest.now c.in-Whole.a (sym c.in-Whole.is ∙ c.first_avp.ensures) in
+    let f = found t (goal.at.count_level-count_group-requires t c).In-Whole in
     (omega arith, (f.is, f.complete_here))
 
 pub count_level-returns-in_default-count_group : goal.count_level-returns-in_default-count_group
 count_level-returns-in_default-count_group t c =
     let D = dictionary_by c.args.d c.args.kinds.now in
-    let f = found c.loop-rest.rest.now c.in-Whole.a (sym c.in-Whole.is ∙ c.first_avp.ensures) in
+    let f = found t (goal.at.count_level-returns-in_default-count_group t c).In-Whole in
     group_deep c.loop-rest.invariant (group_there D _ _ f _ c.kind.ensures c.if-kind-eq-GROUPED.true)
     (was_deep _ _ (sym c.in_default-count_group.is ∙ c.count_group.ensures))
 
 pub count_level-overflow_add-records-then-tiles : goal.count_level-overflow_add-records-then-tiles
 count_level-overflow_add-records-then-tiles t c =
     let D = dictionary_by c.args.d c.args.kinds.now in
-    let f = found c.loop-rest.rest.now c.in-Whole.a (sym c.in-Whole.is ∙ c.first_avp.ensures) in
+    let f = found t (goal.at.count_level-overflow_add-records-then-tiles t c).In-Whole in
     let p = past_group D _ _ f _ c.kind.ensures c.loop-rest.invariant (omega arith) c.if-kind-eq-GROUPED.true (sym c.in-Within.is ∙ c.count_group.ensures) in
     let all : cond c.in-Within.tiles c.in-Within.r 0 ≡ c.in-Within.r = rw c.if-tiles.true in
     omega (arith, fits D c.args.s.now p (omega arith))
@@ -122,27 +124,27 @@ count_level-overflow_add-records-then-tiles t c =
 pub count_level-overflow_add-tried-then-kind-eq-GROUPED : goal.count_level-overflow_add-tried-then-kind-eq-GROUPED
 count_level-overflow_add-tried-then-kind-eq-GROUPED t c =
     let D = dictionary_by c.args.d c.args.kinds.now in
-    let f = found c.loop-rest.rest.now c.in-Whole.a (sym c.in-Whole.is ∙ c.first_avp.ensures) in
+    let f = found t (goal.at.count_level-overflow_add-tried-then-kind-eq-GROUPED t c).In-Whole in
     let p = past_group D _ _ f _ c.kind.ensures c.loop-rest.invariant (omega arith) c.if-kind-eq-GROUPED.true (sym c.in-Within.is ∙ c.count_group.ensures) in
     omega (arith, fits D c.args.s.now p (omega arith))
 
 pub count_level-slice_bounds-rest-count : goal.count_level-slice_bounds-rest-count
 count_level-slice_bounds-rest-count t c =
-    omega (arith, found c.loop-rest.rest.now c.in-Whole.a (sym c.in-Whole.is ∙ c.first_avp.ensures))
+    omega (arith, found t (goal.at.count_level-slice_bounds-rest-count t c).In-Whole)
 
 pub count_level-slice_bounds-rest-start : goal.count_level-slice_bounds-rest-start
 count_level-slice_bounds-rest-start t c =
-    omega (arith, found c.loop-rest.rest.now c.in-Whole.a (sym c.in-Whole.is ∙ c.first_avp.ensures))
+    omega (arith, found t (goal.at.count_level-slice_bounds-rest-start t c).In-Whole)
 
 pub count_level-loop-rest-smaller : goal.count_level-loop-rest-smaller
 count_level-loop-rest-smaller t c =
     let D = dictionary_by c.args.d c.args.kinds.now in
-    (left_after D (found c.loop-rest.rest.now c.in-Whole.a (sym c.in-Whole.is ∙ c.first_avp.ensures))).shorter
+    (left_after D (found t (goal.at.count_level-loop-rest-smaller t c).In-Whole)).shorter
 
 pub count_level-loop-rest-preserved : goal.count_level-loop-rest-preserved
 count_level-loop-rest-preserved t c =
     let D = dictionary_by c.args.d c.args.kinds.now in
-    let f = found c.loop-rest.rest.now c.in-Whole.a (sym c.in-Whole.is ∙ c.first_avp.ensures) in
+    let f = found t (goal.at.count_level-loop-rest-preserved t c).In-Whole in
     rw (left_after D f).is
     (elim c.if-kind-eq-GROUPED.branch [
       | count_level-then-kind-eq-GROUPED+in-Within w ↦

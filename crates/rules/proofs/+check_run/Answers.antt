@@ -1,7 +1,7 @@
 -- The recursion of `check_run` meets its contract. What the loop has passed of a run keeps the rules and takes so many
 -- bytes (`Walked`), whatever earlier depths give the run its parent. A group's members are a run one deeper, whose
 -- parent is the group.
-use Prim.Native.Nat.{ℕ, ◌+◌, ◌*◌, ◌^◌, ◌≤◌, ◌<◌}
+use Prim.Native.Nat.{ℕ, ◌+◌, ◌*◌, ◌≤◌, ◌<◌}
 use mathlib.Core.Path.{◌≡◌, sym, ◌∙◌}
 use mathlib.Core.Bool.{true}
 use mathlib.Core.List.{List}
@@ -64,10 +64,6 @@ past : (t : ℕ) (c : In-Ends t) → c.loop-index.index + 1 ≤ c.in-Ends.next
 unfolding Checks
 past t c = c.in-Ends.ensures.0
 
-short : (t : ℕ) (c : In-Ends t) → c.in-Ends.members ≤ too_many
-unfolding Checks
-short t c = c.in-Ends.ensures.1
-
 pub loop-index-init : goal.loop-index-init
 loop-index-init t c = (omega arith, omega arith, λ earlier e p. none_walked _ _ earlier _ _ e)
 
@@ -126,10 +122,6 @@ unfolding head_of Checks
 sum_fits t c =
     let h = (head c.get-r.result.flags).high in
     omega (arith, c.loop-index.invariant.1, c.in-Ends.ensures.1, c.header_size.ensures, h)
-
-leaf_fits : (t : ℕ) (c : Else-r-parent t)
-    → c.loop-index.size + c.get-r.result.length + c.get-r.result.padding ≤ too_many + 2 ^ 32 + 2 ^ 8
-leaf_fits t c = omega (arith, c.loop-index.invariant.1)
 
 pub overflow_add-depth : goal.overflow_add-depth
 overflow_add-depth t c = omega (arith, (good t (goal.at.overflow_add-depth t c).Else-not-keeps).most)

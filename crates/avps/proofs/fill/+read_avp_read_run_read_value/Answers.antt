@@ -1,33 +1,28 @@
 -- `read_run`, `read_avp` and `read_value` meet their contracts, which are proved together since each calls the next and the last the first.
 -- A run's records are those of its AVPs one after the other (`Filling`); an AVP's are its own and its members' (`OwnRecord`); and the data
 -- of an AVP are entered where their value is Grouped (`Entering`). The levels left fall when a group is entered.
-use Prim.Native.Nat.{ℕ, ◌-◌, ◌≤◌}
+use Prim.Native.Nat.{ℕ, ◌≤◌}
 use mathlib.Core.Path.{◌≡◌, refl, sym, ap, ◌∙◌}
-use mathlib.Core.Bool.{Bool, true, ◌||◌}
 use mathlib.Core.List.{List}
 use native.Mathlib.Omega.{arith}
-use lib.ListN.{length, take, drop}
+use lib.ListN.{length, take}
 use lib.Seq.{length-take-le}
 use Rattle.octets.proofs.Lists.{rest}
-use Rattle.avp.specs.declared.AVP.{AVP}
 use Rattle.record.specs.Record.{Record, record_size}
 use Rattle.record.specs.Store.{put}
 use Rattle.rfc6733.specs.Avp.{complete}
-use Rattle.rfc6733.specs.Records.{tiling}
-use Rattle.attribute.specs.declared.Dictionary as attribute
-use Rattle.attribute.specs.ByTable.{dictionary_by, known, address_by}
+use Rattle.attribute.specs.ByTable.{dictionary_by}
 use Rattle.attribute.proofs.Dictionaries.{kind_is_known}
-use Rattle.value.specs.declared.Read.{Read}
-use Rattle.value.specs.Values.{Shows, value_if, new_value}
+use Rattle.value.specs.Values.{Shows, new_value}
 use Rattle.front.specs.Front.{avp_of}
 use Rattle.front.proofs.Fronts.{Turn, turn_at}
 use Rattle.count.proofs.Lent.{own}
-use Rattle.avps.specs.Fill.{Tiled}
 use Rattle.avps.proofs.Filling.{nothing_filled, never_stuck, all_filled, room_for_one, one_filled}
 use Rattle.avps.proofs.OwnRecord.{opened, standing, behind, behind_room, standing_length, room_for_own, level_for_own, placed, members_tile, room_for_members, avp_written}
 use Rattle.avps.proofs.OtherKinds.{other_address}
 use Rattle.avps.proofs.Entering.{known_value, a_group, no_members, members_written}
 use Rattle.avps.proofs.fill.+read_avp_read_run_read_value.Goals as goal
+use Rattle.avps.proofs.fill.+read_avp_read_run_read_value.Goals.{read_avp-After-put, read_run-After-avp-a, read_value-After-new_known-read}
 
 -- ---- `read_avp`
 
@@ -61,59 +56,46 @@ pub read_avp-slice_bounds-read_value-end : goal.read_avp-slice_bounds-read_value
 read_avp-slice_bounds-read_value-end t c =
     omega (arith, opened c.requires.a_value.0 c.requires.a_value.1 c.header_size-from.ensures)
 
-pub read_avp-slice_bounds-read_value-count-2 : goal.read_avp-slice_bounds-read_value-count-2
-read_avp-slice_bounds-read_value-count-2 t c =
-    let D = dictionary_by c.args.d c.args.kinds.now in
+-- the store with the AVP's own record, before its value is known: there is room for a record, and the store is as long as it was
+record Stands (first store : List ℕ) : Type 0 where
+  room : record_size ≤ length store
+  as_long : length (standing first store) ≡ length store
+
+stands : (t : ℕ) (c : read_avp-After-put t) → Stands c.put.new.store c.args.store.now
+stands t c =
     let x = c.requires.a_value.1 in
     let o = opened c.requires.a_value.0 x c.header_size-from.ensures in
-    let room = room_for_own D o x c.requires.room in
+    let room = room_for_own (dictionary_by c.args.d c.args.kinds.now) o x c.requires.room in
     let first = c.put.ensures.store ∙ ap (λ (r : Record). put r (take record_size c.args.store.now)) c.own_record.ensures in
-    let stands = standing_length _ c.args.store.now c.put.new.store room first in
-    omega arith
+    record { room = room; as_long = standing_length _ c.args.store.now c.put.new.store room first }
+
+pub read_avp-slice_bounds-read_value-count-2 : goal.read_avp-slice_bounds-read_value-count-2
+read_avp-slice_bounds-read_value-count-2 t c = omega (arith, stands t (goal.at.read_avp-slice_bounds-read_value-count-2 t c).After-put)
 
 pub read_avp-slice_bounds-read_value-start-2 : goal.read_avp-slice_bounds-read_value-start-2
-read_avp-slice_bounds-read_value-start-2 t c =
-    let D = dictionary_by c.args.d c.args.kinds.now in
-    let x = c.requires.a_value.1 in
-    let o = opened c.requires.a_value.0 x c.header_size-from.ensures in
-    let room = room_for_own D o x c.requires.room in
-    let first = c.put.ensures.store ∙ ap (λ (r : Record). put r (take record_size c.args.store.now)) c.own_record.ensures in
-    let stands = standing_length _ c.args.store.now c.put.new.store room first in
-    omega arith
+read_avp-slice_bounds-read_value-start-2 t c = omega (arith, stands t (goal.at.read_avp-slice_bounds-read_value-start-2 t c).After-put)
 
 pub read_avp-read_value-value-requires : goal.read_avp-read_value-value-requires
 read_avp-read_value-value-requires t c =
     let D = dictionary_by c.args.d c.args.kinds.now in
     let x = c.requires.a_value.1 in
     let o = opened c.requires.a_value.0 x c.header_size-from.ensures in
-    let room = room_for_own D o x c.requires.room in
-    let first = c.put.ensures.store ∙ ap (λ (r : Record). put r (take record_size c.args.store.now)) c.own_record.ensures in
-    let stands = standing_length _ c.args.store.now c.put.new.store room first in (
+    let st = stands t (goal.at.read_avp-read_value-value-requires t c).After-put in (
       omega arith,
       (
         (level_for_own D o x c.requires.room, members_tile D o x c.requires.room),
-        room_for_members D o x c.args.store.now (standing c.put.new.store c.args.store.now) stands c.requires.room,
+        room_for_members D o x c.args.store.now (standing c.put.new.store c.args.store.now) st.as_long c.requires.room,
       ),
     )
 
 pub read_avp-slice_bounds-put_found-end : goal.read_avp-slice_bounds-put_found-end
 read_avp-slice_bounds-put_found-end t c =
-    let D = dictionary_by c.args.d c.args.kinds.now in
-    let x = c.requires.a_value.1 in
-    let o = opened c.requires.a_value.0 x c.header_size-from.ensures in
-    let room = room_for_own D o x c.requires.room in
-    let first = c.put.ensures.store ∙ ap (λ (r : Record). put r (take record_size c.args.store.now)) c.own_record.ensures in
-    let stands = standing_length _ c.args.store.now c.put.new.store room first in
+    let st = stands t (goal.at.read_avp-slice_bounds-put_found-end t c).After-put in
     behind_room (standing c.put.new.store c.args.store.now) c.read_value-value.new.store (omega arith)
 
 pub read_avp-slice_bounds-put_found-end-2 : goal.read_avp-slice_bounds-put_found-end-2
 read_avp-slice_bounds-put_found-end-2 t c =
-    let D = dictionary_by c.args.d c.args.kinds.now in
-    let x = c.requires.a_value.1 in
-    let o = opened c.requires.a_value.0 x c.header_size-from.ensures in
-    let room = room_for_own D o x c.requires.room in
-    let first = c.put.ensures.store ∙ ap (λ (r : Record). put r (take record_size c.args.store.now)) c.own_record.ensures in
-    let stands = standing_length _ c.args.store.now c.put.new.store room first in
+    let st = stands t (goal.at.read_avp-slice_bounds-put_found-end-2 t c).After-put in
     let all = standing c.put.new.store c.args.store.now in
     sym (length-take-le record_size (behind all c.read_value-value.new.store) (behind_room all c.read_value-value.new.store (omega arith)))
 
@@ -145,44 +127,41 @@ read_run-avp-a-requires t c =
     ap complete (rest s c.loop-at.at (omega arith)) ∙ never_stuck s c.loop-at.at c.loop-at.invariant.1 c.requires.s_value c.loop-at-test.true
 
 -- an AVP was read there
-turn_there : (s : List ℕ) (at : ℕ) (a : AVP) → at ≤ length s → complete (drop at s) ≡ true → a ≡ avp_of (take (length s - at) (drop at s)) → Turn s at a
-turn_there s at a le whole e = turn_at s at a whole (e ∙ ap avp_of (rest s at le))
+turn_there : (t : ℕ) (c : read_run-After-avp-a t) → Turn c.args.s.now c.loop-at.at c.avp-a.result
+turn_there t c =
+    let s = c.args.s.now in
+    let whole = never_stuck s c.loop-at.at c.loop-at.invariant.1 c.requires.s_value c.loop-at-test.true in
+    turn_at s c.loop-at.at c.avp-a.result whole (c.avp-a.ensures ∙ ap avp_of (rest s c.loop-at.at (omega arith)))
 
 pub read_run-overflow_add-next : goal.read_run-overflow_add-next
 read_run-overflow_add-next t c =
-    let s = c.args.s.now in
-    let u = turn_there s c.loop-at.at c.avp-a.result (omega arith) (never_stuck s c.loop-at.at c.loop-at.invariant.1 c.requires.s_value c.loop-at-test.true) c.avp-a.ensures in
+    let u = turn_there t (goal.at.read_run-overflow_add-next t c).After-avp-a in
     omega (arith, u)
 
 pub read_run-slice_bounds-read_avp-end : goal.read_run-slice_bounds-read_avp-end
 read_run-slice_bounds-read_avp-end t c =
-    let s = c.args.s.now in
-    let u = turn_there s c.loop-at.at c.avp-a.result (omega arith) (never_stuck s c.loop-at.at c.loop-at.invariant.1 c.requires.s_value c.loop-at-test.true) c.avp-a.ensures in
+    let u = turn_there t (goal.at.read_run-slice_bounds-read_avp-end t c).After-avp-a in
     omega (arith, u)
 
 pub read_run-read_avp-one-requires : goal.read_run-read_avp-one-requires
 read_run-read_avp-one-requires t c =
-    let s = c.args.s.now in
-    let u = turn_there s c.loop-at.at c.avp-a.result (omega arith) (never_stuck s c.loop-at.at c.loop-at.invariant.1 c.requires.s_value c.loop-at-test.true) c.avp-a.ensures in
+    let u = turn_there t (goal.at.read_run-read_avp-one-requires t c).After-avp-a in
     let o = own (dictionary_by c.args.d c.args.kinds.now) u in
     (omega arith, ((o.is, o.exact), room_for_one c.requires.room c.loop-at.invariant.1 o (omega (arith, c.loop-at.invariant.1)) u.fits))
 
 pub read_run-overflow_add-n : goal.read_run-overflow_add-n
 read_run-overflow_add-n t c =
-    let s = c.args.s.now in
-    let u = turn_there s c.loop-at.at c.avp-a.result (omega arith) (never_stuck s c.loop-at.at c.loop-at.invariant.1 c.requires.s_value c.loop-at-test.true) c.avp-a.ensures in
+    let u = turn_there t (goal.at.read_run-overflow_add-n t c).After-avp-a in
     omega (arith, one_filled c.requires.room c.loop-at.invariant.1 (own _ u) c.read_avp-one.ensures, c.requires.room)
 
 pub read_run-loop-at-smaller : goal.read_run-loop-at-smaller
 read_run-loop-at-smaller t c =
-    let s = c.args.s.now in
-    let u = turn_there s c.loop-at.at c.avp-a.result (omega arith) (never_stuck s c.loop-at.at c.loop-at.invariant.1 c.requires.s_value c.loop-at-test.true) c.avp-a.ensures in
+    let u = turn_there t (goal.at.read_run-loop-at-smaller t c).After-avp-a in
     omega (arith, u)
 
 pub read_run-loop-at-preserved : goal.read_run-loop-at-preserved
 read_run-loop-at-preserved t c =
-    let s = c.args.s.now in
-    let u = turn_there s c.loop-at.at c.avp-a.result (omega arith) (never_stuck s c.loop-at.at c.loop-at.invariant.1 c.requires.s_value c.loop-at-test.true) c.avp-a.ensures in
+    let u = turn_there t (goal.at.read_run-loop-at-preserved t c).After-avp-a in
     (u.fits, rw c.join-errors.ensures (one_filled c.requires.room c.loop-at.invariant.1 (own _ u) c.read_avp-one.ensures))
 
 pub read_run-returns : goal.read_run-returns
@@ -192,27 +171,28 @@ read_run-returns t c =
 -- ---- `read_value`
 
 -- the value is that of the dictionary's kind
-value_shown : (d : attribute.Dictionary) (kinds : List ℕ) (code vendor k : ℕ) (s : List ℕ) (whole : Bool) (r : Read)
-    → Tiled whole (dictionary_by d kinds) code vendor s → k ≡ (dictionary_by d kinds).kind code vendor
-    → Shows (value_if (whole || tiling s) (address_by d.families) (known k) s) s r
-    → let D = dictionary_by d kinds in Shows (new_value D.as_address (D.kind code vendor) s) s r
+value_shown : (t : ℕ) (c : read_value-After-new_known-read t)
+    → let D = dictionary_by c.args.d c.args.kinds.now in
+    Shows (new_value D.as_address (D.kind c.args.code c.args.vendor) c.args.«data».now) c.args.«data».now c.new_known-read.result
 unfolding dictionary_by
-value_shown d kinds code vendor k s whole r tiled e shown =
-    rw (known_value (dictionary_by d kinds) code vendor s whole tiled) at (rw (e, kind_is_known d kinds code vendor) at shown)
+value_shown t c =
+    let a = c.args in
+    rw (known_value (dictionary_by a.d a.kinds.now) a.code a.vendor a.«data».now a.whole c.requires.left_nonzero.1)
+    at (rw (c.kind.ensures, kind_is_known a.d a.kinds.now a.code a.vendor) at c.new_known-read.ensures)
 
 pub read_value-read_run-members-requires : goal.read_value-read_run-members-requires
 read_value-read_run-members-requires t c =
-    let v = value_shown c.args.d c.args.kinds.now c.args.code c.args.vendor _ c.args.«data».now c.args.whole _ c.requires.left_nonzero.1 c.kind.ensures c.new_known-read.ensures in
+    let v = value_shown t (goal.at.read_value-read_run-members-requires t c).After-new_known-read in
     let g = a_group v (other_address _ _ _) (sym c.kind-kind.ensures ∙ c.if-kind-eq-GROUPED.true) in
     (omega arith, (g.tiles_is, rw g.entered_is at c.requires.room))
 
 pub read_value-returns-then-kind-eq-GROUPED : goal.read_value-returns-then-kind-eq-GROUPED
 read_value-returns-then-kind-eq-GROUPED t c =
-    let v = value_shown c.args.d c.args.kinds.now c.args.code c.args.vendor _ c.args.«data».now c.args.whole _ c.requires.left_nonzero.1 c.kind.ensures c.new_known-read.ensures in
+    let v = value_shown t (goal.at.read_value-returns-then-kind-eq-GROUPED t c).After-new_known-read in
     let g = a_group v (other_address _ _ _) (sym c.kind-kind.ensures ∙ c.if-kind-eq-GROUPED.true) in
     members_written g c.if-kind-eq-GROUPED.true (omega (arith, c.requires.room)) c.read_run-members.ensures
 
 pub read_value-returns : goal.read_value-returns
 read_value-returns t c =
-    let v = value_shown c.args.d c.args.kinds.now c.args.code c.args.vendor _ c.args.«data».now c.args.whole _ c.requires.left_nonzero.1 c.kind.ensures c.new_known-read.ensures in
+    let v = value_shown t (goal.at.read_value-returns t c).After-new_known-read in
     no_members v (λ e. c.if-kind-eq-GROUPED.false (c.kind-kind.ensures ∙ e)) c.kind-kind.ensures c.number.ensures

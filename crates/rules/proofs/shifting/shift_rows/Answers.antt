@@ -8,15 +8,9 @@ use Rattle.record.specs.Record.{record_size, record_at}
 use Rattle.record.specs.Table.{table_of}
 use Rattle.record.proofs.Steps.{from}
 use Rattle.rules.specs.Shifting.{fits_shifted, all_fit_shifted, rows_moved}
-use Rattle.rules.proofs.Rows.{moved_length, next_fits, row_moved}
+use Rattle.rules.proofs.Rows.{next_fits, row_moved}
 use Rattle.rules.proofs.shifting.shift_rows.Goals as goal
-use Rattle.rules.proofs.shifting.shift_rows.Goals.{At-loop-index, In-loop-index}
-
--- the table is as long as it was lent
-as_long : (c : At-loop-index) → length c.loop-index.table ≡ length c.args.table.now
-as_long c =
-    ap length c.loop-index.invariant.1
-    ∙ moved_length _ _ c.loop-index.index c.args.table.now (omega (arith, c.loop-index.invariant.0))
+use Rattle.rules.proofs.shifting.shift_rows.Goals.{In-loop-index}
 
 next : (c : In-loop-index)
     → let at = c.loop-index.index * record_size in
