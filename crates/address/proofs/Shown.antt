@@ -1,37 +1,35 @@
 -- What an answer shows. One that is no address shows another kind, so nothing more is asked of it; an address is asked for its family
 -- besides, which the length of the data tells.
 use Prim.Native.Nat.{ℕ, ◌≤◌, ◌<◌}
-use mathlib.Core.Path.{◌≡◌, refl, ap, ◌∙◌}
-use mathlib.Core.Bool.{false}
+use mathlib.Core.Path.{◌≡◌, refl, sym, ◌∙◌}
 use mathlib.Core.List.{List}
 use lib.ListN.{length}
-use lib.Dec.{eqb}
-use borrow.Author.Tests.{lt-ltb, le-ltb, eqb-false}
+use borrow.Author.Tests.{lt-ltb, le-ltb}
+use Rattle.std.specs.Prelude.{Ok, Err}
 use Rattle.flags.specs.Flags.{data_length}
 use Rattle.record.specs.Kinds.{address, unhandled}
-use Rattle.record.specs.Value.{value}
+use Rattle.record.specs.Value.{Value, value}
 use Rattle.address.specs.declared.IpAddr.{IpAddr}
 use Rattle.address.specs.declared.IpAddr.TheVariants.{V4, V6}
-use Rattle.address.specs.declared.Found.{Found}
-use Rattle.address.specs.declared.Found.TheVariants.{Address, BadLength, OtherFamily}
+use Rattle.address.specs.declared.NoAddress.{NoAddress}
+use Rattle.address.specs.declared.NoAddress.TheVariants.{BadLength, OtherFamily}
 use Rattle.address.specs.Addresses.{address_number, address_of, found_as, Finds}
 
-module _ (s : List ℕ) where
-  no_address : (r : Found) → eqb (found_as r).kind address ≡ false → Finds (found_as r) s r
-  no_address r other =
-      record { value = refl; address = λ a is. absurd (eqb-false _ address other (ap (λ (f : Found). (found_as f).kind) is)) }
+module _ (s : List ℕ) {v : Value} where
+  no_address : (why : NoAddress) → v ≡ found_as (Err why) → Finds v s (Err why)
+  no_address why is = record { value = sym is; address = λ a e. cc }
 
-  pub bad_length : Finds (value unhandled data_length 0) s BadLength
-  bad_length = no_address BadLength refl
+  pub bad_length : v ≡ value unhandled data_length 0 → Finds v s (Err BadLength)
+  bad_length = no_address BadLength
 
-  pub other_family : Finds (value unhandled 0 0) s OtherFamily
-  other_family = no_address OtherFamily refl
+  pub other_family : v ≡ value unhandled 0 0 → Finds v s (Err OtherFamily)
+  other_family = no_address OtherFamily
 
-  an_address : (a : IpAddr) → a ≡ address_of s (address_number a) → Finds (value address 0 (address_number a)) s (Address a)
-  an_address a told = record { value = refl; address = λ b is. let same : b ≡ a = cc in same ∙ told }
+  an_address : (a : IpAddr) → v ≡ value address 0 (address_number a) → a ≡ address_of s (address_number a) → Finds v s (Ok a)
+  an_address a is told = rw is (record { value = refl; address = λ b e. let same : b ≡ a = cc in same ∙ told })
 
-  pub ipv4 : (n : ℕ) → length s < 16 → Finds (value address 0 n) s (Address (V4 n))
-  ipv4 n few = an_address (V4 n) (rw (lt-ltb _ _ few))
+  pub ipv4 : (n : ℕ) → v ≡ value address 0 n → length s < 16 → Finds v s (Ok (V4 n))
+  ipv4 n is few = an_address (V4 n) is (rw (lt-ltb _ _ few))
 
-  pub ipv6 : 16 ≤ length s → Finds (value address 0 0) s (Address V6)
-  ipv6 room = an_address V6 (rw (le-ltb _ _ room))
+  pub ipv6 : v ≡ value address 0 0 → 16 ≤ length s → Finds v s (Ok V6)
+  ipv6 is room = an_address V6 is (rw (le-ltb _ _ room))

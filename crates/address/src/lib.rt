@@ -7,16 +7,15 @@ ghost use Rattle.rfc6733.specs.Dictionary.{bare_address, family_address};
 ghost use Rattle.address.specs.Addresses.{address_number, Finds};
 
 /// An IPv4 address as a number. An IPv6 address stays in the input.
-#[derive(Clone, Copy)]
+#[derive(Clone, Copy, Debug, PartialEq, Eq)]
 pub enum IpAddr {
     V4(u32),
     V6,
 }
 
-/// What data that should be an Address are.
-#[derive(Clone, Copy)]
-pub enum Found {
-    Address(IpAddr),
+/// Why data that should be an Address are none.
+#[derive(Clone, Copy, Debug, PartialEq, Eq)]
+pub enum NoAddress {
     BadLength,
     OtherFamily,
 }
@@ -26,9 +25,8 @@ impl IpAddr {
 
     const V6_SIZE: usize = 16;
 
-    // Address families (IANA, "Address Family Numbers"), which stand before the address where it has one, and where it ends then.
-    const FAMILY_SIZE: usize = 2;
-
+    // Address families (IANA, "Address Family Numbers"), which stand before the address where it has one, and where the
+    // data end then.
     const V4_FAMILY: u32 = 1;
 
     const V4_END: usize = 6;
@@ -49,39 +47,27 @@ impl IpAddr {
 }
 
 /// Data that are the address alone.
-pub fn bare(data: &[u8]) -> Found
+pub fn bare(data: &[u8]) -> Result<IpAddr, NoAddress>
     ensures { Finds (bare_address «data».now) «data».now result }
 {
-    let size = data.len();
-    if size == IpAddr::V4_SIZE {
-        return Found::Address(IpAddr::V4(word::be_u32(data)));
+    match data.len() {
+        IpAddr::V4_SIZE => Ok(IpAddr::V4(word::be_u32(data))),
+        IpAddr::V6_SIZE => Ok(IpAddr::V6),
+        _ => Err(NoAddress::BadLength),
     }
-    if size == IpAddr::V6_SIZE {
-        return Found::Address(IpAddr::V6);
-    }
-    Found::BadLength
 }
 
 /// Data that are a family, then the address.
-pub fn after_family(data: &[u8]) -> Found
+pub fn after_family(data: &[u8]) -> Result<IpAddr, NoAddress>
     ensures { Finds (family_address «data».now) «data».now result }
 {
-    let size = data.len();
-    if size < IpAddr::FAMILY_SIZE {
-        return Found::BadLength;
+    let [high, low, address @ ..] = data else {
+        return Err(NoAddress::BadLength);
+    };
+    match (octets::be_u16(*high, *low), data.len()) {
+        (IpAddr::V4_FAMILY, IpAddr::V4_END) => Ok(IpAddr::V4(word::be_u32(address))),
+        (IpAddr::V6_FAMILY, IpAddr::V6_END) => Ok(IpAddr::V6),
+        (IpAddr::V4_FAMILY | IpAddr::V6_FAMILY, _) => Err(NoAddress::BadLength),
+        _ => Err(NoAddress::OtherFamily),
     }
-    let family = octets::be_u16(data[0], data[1]);
-    if family == IpAddr::V4_FAMILY {
-        if size != IpAddr::V4_END {
-            return Found::BadLength;
-        }
-        return Found::Address(IpAddr::V4(word::be_u32(&data[IpAddr::FAMILY_SIZE..IpAddr::V4_END])));
-    }
-    if family != IpAddr::V6_FAMILY {
-        return Found::OtherFamily;
-    }
-    if size != IpAddr::V6_END {
-        return Found::BadLength;
-    }
-    Found::Address(IpAddr::V6)
 }

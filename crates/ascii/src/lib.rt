@@ -1,19 +1,20 @@
-// How many bytes of ASCII are at the front of a text, for speed, since most texts are mostly ASCII. A byte of UTF8-1 is a character, so to pass
-// a run of them, thirty-two at once and then four, changes no answer. This crate knows nothing of Diameter.
+// How many bytes of ASCII are at the front of a text, for speed, since most texts are mostly ASCII. A byte of UTF8-1 is a
+// character, so to pass a run of them, eight words at once and then one, changes no answer. This crate knows nothing of
+// Diameter.
 #![tactic(auto)]
 
-ghost use Rattle.std.specs.Prelude.{◌≡◌, leb};
-ghost use Rattle.ascii.specs.Ascii.{ascii_run};
+ghost use Rattle.std.specs.Prelude.{◌≡◌, ◌*◌, ◌&&◌, true, leb, fold};
+ghost use Rattle.ascii.specs.Ascii.{ascii_run, all_ascii};
 
 /// How many bytes at the front are UTF8-1.
 pub fn run(s: &[u8]) -> usize
     ensures { result ≡ ascii_run s.now }
 {
     let mut at: usize = 0;
-    while thirty_two(&s[at..]) {
+    while words::<8>(&s[at..]) {
         at += 32;
     }
-    while four(&s[at..]) {
+    while words::<1>(&s[at..]) {
         at += 4;
     }
     while at < s.len() && rfc3629::is_utf8_1(s[at]) {
@@ -22,34 +23,25 @@ pub fn run(s: &[u8]) -> usize
     at
 }
 
-// Are there thirty-two of them?
-fn thirty_two(s: &[u8]) -> bool
-    ensures { result ≡ leb 32 (ascii_run s.now) }
+// Are there N words of them?
+fn words<const N: usize>(s: &[u8]) -> bool
+    ensures { result ≡ leb (4 * N) (ascii_run s.now) }
 {
-    if s.len() < 32 {
-        return false;
-    }
-    sixteen(s) & sixteen(&s[16..])
+    let (words, _) = s.as_chunks::<4>();
+    N <= words.len() && each(&words[..N])
 }
 
-// Are there sixteen?
-fn sixteen(s: &[u8]) -> bool
-    ensures { result ≡ leb 16 (ascii_run s.now) }
+// Is each word ASCII? No test branches, so that the compiler asks several words at once.
+fn each(words: &[[u8; 4]]) -> bool
+    ensures { result ≡ fold (λ all word. all && all_ascii word) true words.now }
 {
-    if s.len() < 16 {
-        return false;
-    }
-    four(s) & four(&s[4..]) & four(&s[8..]) & four(&s[12..])
+    words.iter().fold(true, |all, word| all & four(*word))
 }
 
-// Are there four? They are taken from one word, since the compiler makes one test of it.
-fn four(s: &[u8]) -> bool
-    ensures { result ≡ leb 4 (ascii_run s.now) }
+// The four are taken as one word, since the compiler makes one test of it.
+fn four(b: [u8; 4]) -> bool
+    ensures { result ≡ all_ascii b }
 {
-    if s.len() < 4 {
-        return false;
-    }
-    let b = octets::to_be_u32(word::be_u32(s));
     rfc3629::is_utf8_1(b[0])
         & rfc3629::is_utf8_1(b[1])
         & rfc3629::is_utf8_1(b[2])

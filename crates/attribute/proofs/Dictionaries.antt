@@ -1,14 +1,16 @@
--- The kinds by code. A code that a table doesn't list is Unhandled, by induction over the table; the codes that it lists are one
--- computation. So the sawp dictionary is the table of docs/FORMAT.md, 5.1, at every code, and the table of a reading with what is beside
--- it is the reading's dictionary.
+-- The kinds by code. A code that a table doesn't list is Unhandled, by induction over the table; the codes that it
+-- lists are one computation. So the sawp dictionary is the table of docs/FORMAT.md, 5.1, at every code, and the table
+-- of a reading with what is beside it is the reading's dictionary.
 use Prim.Native.Nat.{ℕ, ◌≤◌, ◌<◌}
 use mathlib.Core.Path.{◌≡◌, refl, sym, ap, ◌∙◌, fun_ext}
-use mathlib.Core.Bool.{Bool, true, false, not, cond, ◌||◌}
+use mathlib.Core.Bool.{false, cond}
 use mathlib.Core.List.{List, [], ◌∷◌, ◌++◌}
 use native.Mathlib.Omega.{arith}
+use denote.Ref.{Bor}
 use lib.ListN.{get_or}
-use lib.Dec.{leb, eqb}
+use lib.Dec.{eqb}
 use borrow.Author.Tests.{le-leb}
+use Rattle.std.proofs.lemmas.Bool.Decides.{nat_tests}
 use Rattle.rfc6733.specs.Value.{one_of}
 use Rattle.record.specs.Value.{Value}
 use Rattle.record.specs.Kinds.{unhandled, time}
@@ -16,7 +18,7 @@ use Rattle.rfc6733.specs.Dictionary.{Dictionary, base_avps, sawp_avps, by_rows, 
 use Rattle.record.specs.Rows.{Row, kind_in, table}
 use Rattle.rfc6733.proofs.Listed.{one_of_append, passed}
 use Rattle.attribute.specs.Attributes.{dictionary, kind_table}
-use Rattle.attribute.specs.ByTable.{known, kind_by, address_by, dictionary_by, beside_table}
+use Rattle.attribute.specs.ByTable.{known, kind_by, address_by, dictionary_of, read_by}
 use Rattle.attribute.specs.declared.Dictionary as declared
 use Rattle.attribute.specs.declared.Reading.{Reading}
 use Rattle.attribute.specs.declared.Reading.TheVariants.{Sawp, Rfc}
@@ -50,15 +52,9 @@ document_kinds c =
 -- ---- a lent table
 
 -- what is found for a code is a kind, whatever the bytes of the table are
-pub kind_is_known : (d : declared.Dictionary) (ks : List ℕ) (c v : ℕ) → known ((dictionary_by d ks).kind c v) ≡ (dictionary_by d ks).kind c v
-unfolding dictionary_by kind_by
-kind_is_known d ks c v = by (not d.vendors || eqb v 0) (leb (get_or ks c unhandled) time) refl
-  where
-    by : (b q : Bool) → leb (get_or ks c unhandled) time ≡ q
-        → let k = cond b (cond q (get_or ks c unhandled) unhandled) unhandled in known k ≡ k
-    by true true e = rw e
-    by true false e = refl
-    by false q e = refl
+pub kind_is_known : (d : declared.Dictionary) (c v : ℕ) → known ((dictionary_of d).kind c v) ≡ (dictionary_of d).kind c v
+unfolding dictionary_of kind_by
+kind_is_known d c v = grind (arith, nat_tests)
 
 -- the table of a list of rows, each of a kind
 listed_kind : (rs : List Row) (n : ℕ) → greatest (codes_in rs) < n → greatest_kind rs ≤ time → (c : ℕ)
@@ -68,18 +64,20 @@ listed_kind rs n codes kinds c =
     rw (entry_of rs n codes c, le-leb _ _ within)
 
 same_kinds : {k k' : ℕ → ℕ → ℕ} (as_address : List ℕ → Value) → ((c v : ℕ) → k c v ≡ k' c v)
-    → ◌≡◌ {A = Dictionary} (record { kind = k; as_address = as_address }) (record { kind = k'; as_address = as_address })
-same_kinds as_address same = ap (λ (k : ℕ → ℕ → ℕ). record { kind = k; as_address = as_address }) (fun_ext (λ c. fun_ext (same c)))
+    → let D : (ℕ → ℕ → ℕ) → Dictionary = λ k. record { kind = k; as_address = as_address } in D k ≡ D k'
+same_kinds as_address same =
+    ap (λ (k : ℕ → ℕ → ℕ). record { kind = k; as_address = as_address }) (fun_ext (λ c. fun_ext (same c)))
 
 -- the table of some rows, with what the RFC reading has beside it, is the dictionary of those rows
 pub rows_by_table : (rs : List Row) (n : ℕ) → greatest (codes_in rs) < n → greatest_kind rs ≤ time
-    → dictionary_by (beside_table Rfc) (table (kind_in rs) n) ≡ by_rows rs
-unfolding dictionary_by kind_by address_by beside_table
-rows_by_table rs n codes kinds =
-    same_kinds family_address (λ c v. ap (λ (k : ℕ). cond (eqb v 0) k unhandled) (listed_kind rs n codes kinds c))
+    → (ks : Bor (List ℕ)) → ks.now ≡ table (kind_in rs) n → dictionary_of (read_by Rfc ks) ≡ by_rows rs
+unfolding dictionary_of kind_by address_by read_by
+rows_by_table rs n codes kinds ks e =
+    rw e (same_kinds family_address (λ c v. ap (λ (k : ℕ). cond (eqb v 0) k unhandled) (listed_kind rs n codes kinds c)))
 
 -- the table of a reading, with what is beside it, is the reading's dictionary
-pub dictionary_by_table : (r : Reading) → dictionary_by (beside_table r) (kind_table r) ≡ dictionary r
-unfolding dictionary_by kind_by address_by beside_table kind_table dictionary sawp rfc
-dictionary_by_table Sawp = same_kinds bare_address (λ c v. listed_kind sawp_avps 512 (omega arith) (omega arith) c)
-dictionary_by_table Rfc = rows_by_table base_avps 512 (omega arith) (omega arith)
+pub dictionary_by_table : (r : Reading) {d : declared.Dictionary} (ks : Bor (List ℕ)) → d ≡ read_by r ks → ks.now ≡ kind_table r
+    → dictionary_of d ≡ dictionary r
+unfolding dictionary_of kind_by address_by read_by kind_table dictionary sawp rfc
+dictionary_by_table Sawp ks made e = rw (made, e) (same_kinds bare_address (λ c v. listed_kind sawp_avps 512 (omega arith) (omega arith) c))
+dictionary_by_table Rfc ks made e = rw made (rows_by_table base_avps 512 (omega arith) (omega arith) ks e)

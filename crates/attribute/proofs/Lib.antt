@@ -1,3 +1,2 @@
-pub mod Names
 pub mod Agreement
 pub mod Dictionaries

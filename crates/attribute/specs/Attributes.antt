@@ -3,7 +3,24 @@ use Rattle.std.specs.Prelude.{ℕ, cond, List, [], ◌∷◌, eqb}
 use Rattle.rfc6733.specs.Dictionary.{Dictionary, sawp, rfc}
 use Rattle.record.specs.Rows.{table}
 use Rattle.attribute.specs.declared.AttributeCode.{AttributeCode}
-use Rattle.attribute.specs.declared.AttributeCode.TheVariants.{Unknown, AcctInterimInterval, AccountingRealtimeRequired, AcctMultiSessionId, AccountingRecordNumber, AccountingRecordType, AcctSessionId, AccountingSubSessionId, AcctApplicationId, AuthApplicationId, AuthRequestType, AuthorizationLifetime, AuthGracePeriod, AuthSessionState, ReAuthRequestType, Class, DestinationHost, DestinationRealm, DisconnectCause, ErrorMessage, ErrorReportingHost, EventTimestamp, ExperimentalResult, ExperimentalResultCode, FailedAVP, FirmwareRevision, HostIPAddress, InbandSecurityId, MultiRoundTimeOut, OriginHost, OriginRealm, OriginStateId, ProductName, ProxyHost, ProxyInfo, ProxyState, RedirectHost, RedirectHostUsage, RedirectMaxCacheTime, ResultCode, RouteRecord, SessionId, SessionTimeout, SessionBinding, SessionServerFailover, SupportedVendorId, TerminationCause, UserName, VendorId, VendorSpecificApplicationId}
+use Rattle.attribute.specs.declared.AttributeCode.TheVariants.{Unknown, AcctInterimInterval, AccountingRealtimeRequired}
+use Rattle.attribute.specs.declared.AttributeCode.TheVariants.{AcctMultiSessionId, AccountingRecordNumber}
+use Rattle.attribute.specs.declared.AttributeCode.TheVariants.{AccountingRecordType, AcctSessionId}
+use Rattle.attribute.specs.declared.AttributeCode.TheVariants.{AccountingSubSessionId, AcctApplicationId}
+use Rattle.attribute.specs.declared.AttributeCode.TheVariants.{AuthApplicationId, AuthRequestType}
+use Rattle.attribute.specs.declared.AttributeCode.TheVariants.{AuthorizationLifetime, AuthGracePeriod, AuthSessionState}
+use Rattle.attribute.specs.declared.AttributeCode.TheVariants.{ReAuthRequestType, Class, DestinationHost}
+use Rattle.attribute.specs.declared.AttributeCode.TheVariants.{DestinationRealm, DisconnectCause, ErrorMessage}
+use Rattle.attribute.specs.declared.AttributeCode.TheVariants.{ErrorReportingHost, EventTimestamp, ExperimentalResult}
+use Rattle.attribute.specs.declared.AttributeCode.TheVariants.{ExperimentalResultCode, FailedAVP, FirmwareRevision}
+use Rattle.attribute.specs.declared.AttributeCode.TheVariants.{HostIPAddress, InbandSecurityId, MultiRoundTimeOut}
+use Rattle.attribute.specs.declared.AttributeCode.TheVariants.{OriginHost, OriginRealm, OriginStateId, ProductName}
+use Rattle.attribute.specs.declared.AttributeCode.TheVariants.{ProxyHost, ProxyInfo, ProxyState, RedirectHost}
+use Rattle.attribute.specs.declared.AttributeCode.TheVariants.{RedirectHostUsage, RedirectMaxCacheTime, ResultCode}
+use Rattle.attribute.specs.declared.AttributeCode.TheVariants.{RouteRecord, SessionId, SessionTimeout, SessionBinding}
+use Rattle.attribute.specs.declared.AttributeCode.TheVariants.{SessionServerFailover, SupportedVendorId}
+use Rattle.attribute.specs.declared.AttributeCode.TheVariants.{TerminationCause, UserName, VendorId}
+use Rattle.attribute.specs.declared.AttributeCode.TheVariants.{VendorSpecificApplicationId}
 use Rattle.attribute.specs.declared.Attribute.{Attribute}
 use Rattle.attribute.specs.declared.Reading.{Reading}
 use Rattle.attribute.specs.declared.Reading.TheVariants.{Sawp, Rfc}
@@ -84,13 +101,13 @@ names =
     ∷ name 260 VendorSpecificApplicationId
     ∷ []
 
-unfoldable pub attribute_of : ℕ → Attribute
+abbrev pub attribute_of : ℕ → Attribute
 attribute_of n = record { raw = n; code = name_in names n }
 
 -- Departure S2: in the RFC reading Destination-Realm is 283, and 235 has no name
 abbrev pub rfc_names : List Name
 rfc_names = name 283 DestinationRealm ∷ name 235 Unknown ∷ names
 
-unfoldable pub attribute_in : Reading → ℕ → Attribute
+abbrev pub attribute_in : Reading → ℕ → Attribute
 attribute_in Sawp n = attribute_of n
 attribute_in Rfc n = record { raw = n; code = name_in rfc_names n }

@@ -1,6 +1,7 @@
--- A dictionary as the code has it: a table of kinds by code, and beside it whether vendors count and how an Address is read. Any bytes
--- are such a table.
+-- A dictionary as the code has it: a table of kinds by code, and beside it whether vendors count and how an Address is
+-- read. Any bytes are such a table.
 use Rattle.std.specs.Prelude.{ℕ, Bool, true, false, not, cond, ◌||◌, List, get_or, leb, eqb}
+use Rattle.std.specs.Borrow.{Bor}
 use Rattle.record.specs.Kinds.{unhandled, time}
 use Rattle.record.specs.Value.{Value}
 use Rattle.rfc6733.specs.Dictionary as rfc
@@ -20,10 +21,10 @@ kind_by vendors ks c v = cond (not vendors || eqb v 0) (known (get_or ks c unhan
 unfoldable pub address_by : Bool → List ℕ → Value
 address_by families = cond families family_address bare_address
 
-unfoldable pub dictionary_by : Dictionary → List ℕ → rfc.Dictionary
-dictionary_by d ks = record { kind = kind_by d.vendors ks; as_address = address_by d.families }
+unfoldable pub dictionary_of : Dictionary → rfc.Dictionary
+dictionary_of d = record { kind = kind_by d.vendors d.kinds.now; as_address = address_by d.families }
 
--- what a reading has beside its table
-unfoldable pub beside_table : Reading → Dictionary
-beside_table Sawp = record { vendors = false; families = false }
-beside_table Rfc = record { vendors = true; families = true }
+-- a reading's dictionary over a table
+unfoldable pub read_by : Reading → Bor (List ℕ) → Dictionary
+read_by Sawp ks = record { kinds = ks; vendors = false; families = false }
+read_by Rfc ks = record { kinds = ks; vendors = true; families = true }

@@ -3,11 +3,12 @@
 #![tactic(auto)]
 
 pub mod kinds;
+mod names;
 
 ghost use Rattle.std.specs.Prelude.{◌≡◌, get_or};
 ghost use Rattle.record.specs.Kinds.{unhandled};
 ghost use Rattle.attribute.specs.Attributes.{kind_table, attribute_of, attribute_in};
-ghost use Rattle.attribute.specs.ByTable.{known, dictionary_by, beside_table};
+ghost use Rattle.attribute.specs.ByTable.{known, dictionary_of, read_by};
 
 use kinds::{CODES, KINDS};
 use record::kinds::{DIAMETER_IDENTITY, OCTET_STRING, TIME, UNHANDLED};
@@ -21,31 +22,35 @@ const DESTINATION_REALM: u32 = 283;
 const SAWP_DESTINATION_REALM: u32 = 235;
 
 /// Which document decides: the Rust crate sawp-diameter, or RFC 6733.
-#[derive(Clone, Copy)]
+#[derive(Clone, Copy, Debug, PartialEq, Eq)]
 pub enum Reading {
     Sawp,
     Rfc,
 }
 
-/// What a dictionary has beside its kinds: are a vendor's codes its own, and does an Address start with its family? The kinds are lent
-/// beside it, as a table by code.
-#[derive(Clone, Copy)]
-pub struct Dictionary {
+/// A dictionary: the kinds of the codes from 0 on as a lent table, and what is beside them: are a vendor's codes its own, and does an
+/// Address start with its family?
+#[derive(Clone, Copy, Debug, PartialEq, Eq)]
+pub struct Dictionary<'a> {
+    pub kinds: &'a [u8],
     pub vendors: bool,
     pub families: bool,
 }
 
 impl Reading {
-    /// What the reading's dictionary has beside `kind_table`.
-    pub fn dictionary(self) -> Dictionary
-        ensures { result ≡ beside_table self }
+    /// The reading's dictionary over a table of kinds.
+    #[tactic(auto, unfolding(crate::specs::ByTable::read_by))]
+    pub fn dictionary<'a>(self, kinds: &'a [u8]) -> Dictionary<'a>
+        ensures { result ≡ read_by self kinds.entry }
     {
         match self {
             Reading::Sawp => Dictionary {
+                kinds,
                 vendors: false,
                 families: false,
             },
             Reading::Rfc => Dictionary {
+                kinds,
                 vendors: true,
                 families: true,
             },
@@ -54,7 +59,7 @@ impl Reading {
 }
 
 /// AVP Attribute Names as stated in RFC 6733, section 4.5.
-#[derive(Clone, Copy)]
+#[derive(Clone, Copy, Debug, PartialEq, Eq)]
 pub enum AttributeCode {
     Unknown,
     AcctInterimInterval,
@@ -108,7 +113,7 @@ pub enum AttributeCode {
     VendorSpecificApplicationId,
 }
 
-#[derive(Clone, Copy)]
+#[derive(Clone, Copy, Debug, PartialEq, Eq)]
 pub struct Attribute {
     /// Value of the code in AVP header
     pub raw: u32,
@@ -116,6 +121,7 @@ pub struct Attribute {
     pub code: AttributeCode,
 }
 
+#[tactic(auto, using(std::proofs::lemmas::Bool::Decides::nat_tests))]
 impl Attribute {
     /// The attribute by the Rust's names, in which Destination-Realm is 235. `read` has those of a reading.
     pub fn new(val: u32) -> Self
@@ -180,15 +186,12 @@ impl Attribute {
     pub fn read(reading: Reading, val: u32) -> Self
         ensures { result ≡ attribute_in reading val }
     {
-        let Reading::Rfc = reading else {
-            return Attribute::new(val);
-        };
-        match val {
-            DESTINATION_REALM => Attribute {
+        match (reading, val) {
+            (Reading::Rfc, DESTINATION_REALM) => Attribute {
                 raw: val,
                 code: AttributeCode::DestinationRealm,
             },
-            SAWP_DESTINATION_REALM => Attribute {
+            (Reading::Rfc, SAWP_DESTINATION_REALM) => Attribute {
                 raw: val,
                 code: AttributeCode::Unknown,
             },
@@ -201,14 +204,16 @@ impl Attribute {
 pub fn kind_table(reading: Reading) -> [u8; CODES]
     ensures { result ≡ kind_table reading }
 {
-    let mut kinds = KINDS;
-    let Reading::Rfc = reading else {
-        return kinds;
-    };
-    kinds[CLASS as usize] = OCTET_STRING;
-    kinds[SAWP_DESTINATION_REALM as usize] = UNHANDLED;
-    kinds[DESTINATION_REALM as usize] = DIAMETER_IDENTITY;
-    kinds
+    match reading {
+        Reading::Sawp => KINDS,
+        Reading::Rfc => {
+            let mut kinds = KINDS;
+            kinds[CLASS as usize] = OCTET_STRING;
+            kinds[SAWP_DESTINATION_REALM as usize] = UNHANDLED;
+            kinds[DESTINATION_REALM as usize] = DIAMETER_IDENTITY;
+            kinds
+        }
+    }
 }
 
 // A number that is no kind counts as Unhandled.
@@ -218,27 +223,26 @@ fn known(kind: u8) -> u8
     if kind <= TIME { kind } else { UNHANDLED }
 }
 
-// The entry of a code in a table of kinds; past it a code is Unhandled.
-fn entry(kinds: &[u8], code: u32) -> u8
-    ensures { result ≡ known (get_or kinds.now code unhandled) }
-{
-    let at = code as usize;
-    if at < kinds.len() {
-        known(kinds[at])
-    } else {
-        UNHANDLED
+impl Dictionary<'_> {
+    // The entry of a code in the table; past it a code is Unhandled.
+    fn entry(self, code: u32) -> u8
+        ensures { result ≡ known (get_or self.entry.kinds.now code unhandled) }
+    {
+        match self.kinds.get(code as usize) {
+            Some(kind) => known(*kind),
+            None => UNHANDLED,
+        }
     }
-}
 
-/// The kind of an AVP by its code and vendor, which is 0 without the vendor bit. `kinds` are those of the codes from 0 on.
-pub fn kind(d: Dictionary, kinds: &[u8], code: u32, vendor: u32) -> u8
-    ensures { result ≡ (dictionary_by d kinds.now).kind code vendor }
-{
-    if vendor == 0 {
-        return entry(kinds, code);
+    /// The kind of an AVP by its code and vendor, which is 0 without the vendor bit.
+    #[tactic(auto, unfolding(crate::specs::ByTable::dictionary_of, crate::specs::ByTable::kind_by))]
+    pub fn kind(self, code: u32, vendor: u32) -> u8
+        ensures { result ≡ (dictionary_of self.entry).kind code vendor }
+    {
+        if vendor == 0 || !self.vendors {
+            self.entry(code)
+        } else {
+            UNHANDLED
+        }
     }
-    if !d.vendors {
-        return entry(kinds, code);
-    }
-    UNHANDLED
 }

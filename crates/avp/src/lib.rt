@@ -7,7 +7,7 @@ ghost use Rattle.flags.specs.Flags.{bit};
 ghost use Rattle.rfc6733.specs.Avp.{vendor_bit, mandatory_bit, protected_bit, avp_reserved, head_size, padding};
 
 /// The header of one AVP, and its size with its padding.
-#[derive(Clone, Copy)]
+#[derive(Clone, Copy, Debug, PartialEq, Eq)]
 pub struct AVP {
     pub code: u32,
     pub flags: u8,
@@ -49,14 +49,16 @@ impl AVP {
         flags & Self::VENDOR_SPECIFIC_FLAG != 0
     }
 
-    /// The 'V' bit, known as the Vendor-Specific bit, indicates whether the optional Vendor-ID field is present in the AVP header.
+    /// The 'V' bit, known as the Vendor-Specific bit, indicates whether the optional Vendor-ID field is present in the
+    /// AVP header.
     pub fn is_vendor_specific(self) -> bool
         ensures { result ≡ bit vendor_bit self.flags }
     {
         Self::vendor_specific_flag(self.flags)
     }
 
-    /// The 'M' bit, known as the Mandatory bit, indicates whether the receiver of the AVP MUST parse and understand the semantics of the AVP including its content.
+    /// The 'M' bit, known as the Mandatory bit, indicates whether the receiver of the AVP MUST parse and understand the
+    /// semantics of the AVP including its content.
     pub fn is_mandatory(self) -> bool
         ensures { result ≡ bit mandatory_bit self.flags }
     {
@@ -78,13 +80,15 @@ impl AVP {
     }
 
     /// How long a header with these flags is.
+    #[tactic(auto, unfolding(rfc6733::specs::Avp::head_size))]
     pub fn header_size_of(flags: u8) -> usize
         ensures { result ≡ head_size flags }
     {
         if Self::vendor_specific_flag(flags) {
-            return Self::VENDOR_SIZE;
+            Self::VENDOR_SIZE
+        } else {
+            Self::PRE_LENGTH_SIZE
         }
-        Self::PRE_LENGTH_SIZE
     }
 
     /// How long the header is: 8 bytes, and 12 with the vendor.
@@ -95,6 +99,7 @@ impl AVP {
     }
 
     /// How many bytes of padding follow so many bytes of data.
+    #[tactic(auto, unfolding(rfc6733::specs::Avp::padding))]
     pub fn padding(length: usize) -> usize
         ensures { result ≡ padding length }
     {

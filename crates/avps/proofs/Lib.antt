@@ -4,4 +4,3 @@ mod OtherKinds
 mod Entering
 pub mod AnswerOf
 pub mod Answered
-pub mod Told

@@ -11,7 +11,7 @@ use Rattle.record.specs.Kinds.{grouped}
 use Rattle.rfc6733.specs.Dictionary.{family_address, bare_address}
 use Rattle.rfc6733.proofs.KindsRead.{Kind, kind_read, bare_kind, family_kind}
 use Rattle.attribute.specs.declared.Dictionary.{Dictionary}
-use Rattle.attribute.specs.ByTable.{address_by, dictionary_by}
+use Rattle.attribute.specs.ByTable.{address_by, dictionary_of}
 
 -- a kind that is not Grouped
 abbrev pub Other : ℕ → Type 0
@@ -21,9 +21,9 @@ pub other_read : (k : ℕ) → Other k → (s : List ℕ) (as_address : List ℕ
 other_read = kind_read Other refl
 
 -- an Address, with its family or without
-pub other_address : (d : Dictionary) (ks s : List ℕ) → Kind Other ((dictionary_by d ks).as_address s)
-unfolding dictionary_by address_by
-other_address d ks s = by d.families
+pub other_address : (d : Dictionary) (s : List ℕ) → Kind Other ((dictionary_of d).as_address s)
+unfolding dictionary_of address_by
+other_address d s = by d.families
   where
     by : (families : Bool) → Kind Other (cond families family_address bare_address s)
     by true = family_kind Other refl refl s

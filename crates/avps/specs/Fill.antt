@@ -12,7 +12,7 @@ use Rattle.rfc6733.specs.Groups.{member_records}
 use Rattle.rfc6733.specs.Entered.{value_in, entered}
 use Rattle.avp.specs.declared.AVP.{AVP}
 use Rattle.attribute.specs.declared.Dictionary as attribute
-use Rattle.attribute.specs.ByTable.{dictionary_by}
+use Rattle.attribute.specs.ByTable.{dictionary_of}
 use Rattle.avps.specs.declared.fill.Ran.{Ran}
 use Rattle.avps.specs.declared.fill.Valued.{Valued}
 
@@ -84,9 +84,9 @@ pub record Members (D : Dictionary) (code vendor : ℕ) (s : List ℕ) (place de
   pub store_is : after ≡ over (laid (member_records D place (depth + 1) (group_before first) first (entered D code vendor s))) before
 
 -- the same by a dictionary as the code has it, with so many levels left
-abbrev pub ValueRead : attribute.Dictionary → List ℕ → ℕ → ℕ → List ℕ → ℕ → ℕ → ℕ → Valued → List ℕ → List ℕ → Type 0
-ValueRead d kinds code vendor s place first left r before after =
-    Members (dictionary_by d kinds) code vendor s place (depth_at left) first r before after
+abbrev pub ValueRead : attribute.Dictionary → ℕ → ℕ → List ℕ → ℕ → ℕ → ℕ → Valued → List ℕ → List ℕ → Type 0
+ValueRead d code vendor s place first left r before after =
+    Members (dictionary_of d) code vendor s place (depth_at left) first r before after
 
 -- the store holds the records of t, and zero to its last byte; the flags are theirs
 pub record Cleared (D : Dictionary) (t : Tree) (place e : ℕ) (before after : List ℕ) : Type 0 where

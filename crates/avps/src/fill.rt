@@ -7,7 +7,7 @@ ghost use Rattle.rfc6733.specs.Avp.{Exact, avp_reserved};
 ghost use Rattle.rfc6733.specs.Records.{avps};
 ghost use Rattle.rfc6733.specs.Entered.{entered};
 ghost use Rattle.front.specs.Front.{avp_of};
-ghost use Rattle.attribute.specs.ByTable.{dictionary_by};
+ghost use Rattle.attribute.specs.ByTable.{dictionary_of};
 ghost use Rattle.avps.specs.Fill.{Room, Tiled, Placed, own_record, depth_at, group_before, RunRecorded, ValueRead};
 
 use super::known;
@@ -80,18 +80,17 @@ fn group_before(first: usize) -> u32
 // its own among them. Where `whole` says so every group tiles, and none is asked.
 #[cycle(read_avp_read_run_read_value)]
 pub(super) fn read_run(
-    d: Dictionary,
+    d: Dictionary<'_>,
     whole: bool,
-    kinds: &[u8],
     s: &[u8],
     place: usize,
     first: usize,
     left: usize,
     store: &mut [u8],
 ) -> Ran
-    requires s_value { tiles (tree (avps (dictionary_by d kinds.now)) s.now) ≡ true }
-    requires room { Room whole (tree (avps (dictionary_by d kinds.now)) s.now) place (length s.now) first left (length store.old) }
-    ensures { RunRecorded (dictionary_by d kinds.now) s.now place (group_before first) first left result store.old store.new }
+    requires s_value { tiles (tree (avps (dictionary_of d)) s.now) ≡ true }
+    requires room { Room whole (tree (avps (dictionary_of d)) s.now) place (length s.now) first left (length store.old) }
+    ensures { RunRecorded (dictionary_of d.entry) s.now place (group_before first) first left result store.old store.new }
 {
     let parent = group_before(first);
     let mut at: usize = 0;
@@ -103,7 +102,6 @@ pub(super) fn read_run(
         let one = read_avp(
             d,
             whole,
-            kinds,
             &s[at..next],
             a,
             place + at,
@@ -122,9 +120,8 @@ pub(super) fn read_run(
 // The records of the AVP `a`, whose own bytes are `s`: its own, which has an index and a parent, and its members' after it.
 #[cycle(read_avp_read_run_read_value)]
 fn read_avp(
-    d: Dictionary,
+    d: Dictionary<'_>,
     whole: bool,
-    kinds: &[u8],
     s: &[u8],
     a: AVP,
     place: usize,
@@ -134,8 +131,8 @@ fn read_avp(
     store: &mut [u8],
 ) -> Ran
     requires a_value { (a ≡ avp_of s.now) × Exact s.now }
-    requires room { Room whole (tree (avps (dictionary_by d kinds.now)) s.now) place (length s.now) index left (length store.old) }
-    ensures { RunRecorded (dictionary_by d kinds.now) s.now place parent index left result store.old store.new }
+    requires room { Room whole (tree (avps (dictionary_of d)) s.now) place (length s.now) index left (length store.old) }
+    ensures { RunRecorded (dictionary_of d.entry) s.now place parent index left result store.old store.new }
 {
     let from = a.header_size();
     let to = a.length;
@@ -146,7 +143,6 @@ fn read_avp(
     let value = read_value(
         d,
         whole,
-        kinds,
         a.code,
         a.vendor_id,
         &s[from..to],
@@ -167,9 +163,8 @@ fn read_avp(
 // which has the index `first`.
 #[cycle(read_avp_read_run_read_value)]
 fn read_value(
-    d: Dictionary,
+    d: Dictionary<'_>,
     whole: bool,
-    kinds: &[u8],
     code: u32,
     vendor: u32,
     data: &[u8],
@@ -178,30 +173,16 @@ fn read_value(
     left: usize,
     store: &mut [u8],
 ) -> Valued
-    requires left_nonzero { (0 < left) × Tiled whole (dictionary_by d kinds.now) code vendor «data».now }
-    requires room { Room whole (entered (dictionary_by d kinds.now) code vendor «data».now) place (length «data».now) first (left - 1) (length store.old) }
-    ensures { ValueRead d kinds.now code vendor «data».now place first left result store.old store.new }
+    requires left_nonzero { (0 < left) × Tiled whole (dictionary_of d) code vendor «data».now }
+    requires room { Room whole (entered (dictionary_of d) code vendor «data».now) place (length «data».now) first (left - 1) (length store.old) }
+    ensures { ValueRead d.entry code vendor «data».now place first left result store.old store.new }
 {
-    let read = Value::new_known(
-        d.families,
-        whole,
-        attribute::kind(d, kinds, code, vendor),
-        data,
-    );
+    let read = Value::new_known(d.families, whole, d.kind(code, vendor), data);
     let value = read.value;
     let kind = value.kind();
     if kind == GROUPED {
         // parts, since a slice that is passed on whole is kept in memory
-        let members = read_run(
-            d,
-            whole,
-            &kinds[..],
-            &data[..],
-            place,
-            first,
-            left - 1,
-            store,
-        );
+        let members = read_run(d, whole, &data[..], place, first, left - 1, store);
         return Valued {
             kind,
             number: 0,

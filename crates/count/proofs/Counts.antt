@@ -9,29 +9,30 @@ use Rattle.octets.specs.Run.{Tree, tiles, tried, deepest}
 use Rattle.rfc6733.specs.Records.{record_count}
 use Rattle.rfc6733.specs.Decoder.{allowed, limit_refusals, depth_refusals}
 use Rattle.record.specs.Refusals.{tile_refusals}
-use Rattle.refusal.specs.Answer.{Test, passes}
+use Rattle.refusal.specs.Answer.{Test, passes, answer_of}
 use Rattle.refusal.proofs.Answers.{and-true, kept_not, kept_lt, passed}
 use Rattle.refusal.specs.declared.Refusal.TheVariants.{NotTiled, TooDeep, BadDepth}
-use Rattle.count.specs.declared.Counted.TheVariants.{Fits, Refused}
-use Rattle.count.specs.Counts.{Sums, sums, answer_of, count_of}
+use Rattle.std.specs.Prelude.{Ok, Err}
+use Rattle.count.specs.declared.Sums.{Sums}
+use Rattle.count.specs.Counts.{sums, count_of}
 use Rattle.count.proofs.Levels.{Known}
 
 module _ (limit : ℕ) (t : Tree) where
-  pub not_allowed : allowed limit ≡ false → answer_of (Refused BadDepth) ≡ count_of limit t
-  unfolding answer_of count_of
+  pub not_allowed : allowed limit ≡ false → answer_of (Err BadDepth) ≡ count_of limit t
+  unfolding count_of
   not_allowed e = rw e
 
   module _ (limit_is : allowed limit ≡ true) where
-    pub not_tiled : tiles t ≡ false → answer_of (Refused NotTiled) ≡ count_of limit t
-    unfolding answer_of count_of
+    pub not_tiled : tiles t ≡ false → answer_of (Err NotTiled) ≡ count_of limit t
+    unfolding count_of
     not_tiled e = rw (limit_is, e)
 
-    pub too_deep : tiles t ≡ true → limit < deepest t → answer_of (Refused TooDeep) ≡ count_of limit t
-    unfolding answer_of count_of
+    pub too_deep : tiles t ≡ true → limit < deepest t → answer_of (Err TooDeep) ≡ count_of limit t
+    unfolding count_of
     too_deep e h = rw (limit_is, e, lt-ltb limit (deepest t) h)
 
-    pub fits : {n k : ℕ} → Known limit t true n k → answer_of (Fits n k) ≡ count_of limit t
-    unfolding answer_of count_of
+    pub fits : {n k : ℕ} → Known limit t true n k → answer_of (Ok (record { records = n; tried = k })) ≡ count_of limit t
+    unfolding count_of
     fits w = rw (limit_is, sym w.tiles_is, le-ltb _ _ w.shallow, w.records_is, w.tried_is)
 
 -- ---- the facts from an acceptance
@@ -75,8 +76,8 @@ fitting n k p e =
       tried_is = sym (ap (λ (s : Sums). s.tried) e);
     }
 
-pub was_fitting : (limit : ℕ) (t : Tree) (n k : ℕ) → answer_of (Fits n k) ≡ count_of limit t → Fitting limit t n k
-unfolding answer_of count_of
-was_fitting limit t n k e =
+pub was_fitting : (limit : ℕ) (t : Tree) (s : Sums) → answer_of (Ok s) ≡ count_of limit t → Fitting limit t s.records s.tried
+unfolding count_of
+was_fitting limit t s e =
     let p = passed (limit_refusals limit ++ (tile_refusals t ++ depth_refusals limit t)) (sums t) _ (sym e) in
-    fitting n k (was_passing limit t [] p.0) p.1
+    fitting s.records s.tried (was_passing limit t [] p.0) p.1

@@ -1,13 +1,12 @@
 -- The parts of a run that are lent: an AVP's own bytes, which are the first item of what is left of the run and so exact; its payload,
 -- from the end of its header to its length; and what is left after it, from its size on.
-use Prim.Native.Nat.{ℕ, ◌+◌, ◌-◌, ◌≤◌, ◌<◌}
+use Prim.Native.Nat.{ℕ, ◌+◌, ◌-◌, ◌≤◌}
 use mathlib.Core.Path.{◌≡◌, ap, ◌∙◌}
 use mathlib.Core.Bool.{Bool, true}
 use mathlib.Core.List.{List}
 use native.Mathlib.Omega.{arith}
-use lib.ListN.{length, take, drop, length-drop}
-use Rattle.octets.specs.Run.{item, after, tree}
-use Rattle.octets.proofs.Lists.{rest}
+use lib.ListN.{length, take, drop}
+use Rattle.octets.specs.Run.{item, tree}
 use Rattle.rfc6733.specs.Avp.{flags, head_size, data_size, payload, complete, Exact}
 use Rattle.rfc6733.specs.Dictionary.{Dictionary}
 use Rattle.rfc6733.specs.Records.{avps}
@@ -65,19 +64,4 @@ inside s a from e h f =
       ordered = omega arith;
       within = omega arith;
       is = rw (b, h.length_is);
-    }
-
--- ---- what is left after it
-
-pub record Left (D : Dictionary) (s r : List ℕ) : Type 0 where
-  pub is : r ≡ after (avps D) s
-  pub shorter : length r < length s
-
-pub left_after : (D : Dictionary) {s : List ℕ} {a : AVP} → Turn s 0 a → Left D s (lent s a.size (length s))
-unfolding after
-left_after D {s} {a} t =
-    let e = rest s a.size (omega arith) in
-    record {
-      is = e ∙ ap (λ (n : ℕ). drop n s) t.fields.size_is;
-      shorter = rw e (omega (arith, length-drop a.size s));
     }

@@ -20,10 +20,15 @@ use Rattle.rfc6733.proofs.Complete.{complete_whole}
 use Rattle.rfc6733.proofs.Items.{Same, item_same, sound}
 use Rattle.rfc6733.proofs.RunRecords.{count_tried}
 use Rattle.rfc6733.proofs.Tried.{tried_length}
-use Rattle.count.specs.declared.Level.TheVariants.{TooDeep, Within}
+use Rattle.std.specs.Prelude.{Some, None}
+use Rattle.std.proofs.lemmas.Option.{none-some, same_Some}
+use Rattle.count.specs.declared.Level.{Level}
 use Rattle.count.specs.Counts.{level_of}
 
 -- ---- facts and answers
+
+abbrev counted : Tree → Level
+counted t = record { tiles = tiles t; records = record_count t; tried = tried t }
 
 pub record Known (left : ℕ) (t : Tree) (b : Bool) (n k : ℕ) : Type 0 where
   pub shallow : deepest t ≤ left
@@ -31,29 +36,36 @@ pub record Known (left : ℕ) (t : Tree) (b : Bool) (n k : ℕ) : Type 0 where
   pub records_is : n ≡ record_count t
   pub tried_is : k ≡ tried t
 
-pub deep : (left : ℕ) (t : Tree) → left < deepest t → TooDeep ≡ level_of left t
+pub deep : (left : ℕ) (t : Tree) → left < deepest t → None ≡ level_of left t
 unfolding level_of
 deep left t h = rw (lt-ltb left (deepest t) h)
 
-pub counts : {left : ℕ} {t : Tree} {b : Bool} {n k : ℕ} → Known left t b n k → Within b n k ≡ level_of left t
+pub counts : {left : ℕ} {t : Tree} {b : Bool} {n k : ℕ} → Known left t b n k → Some (record { tiles = b; records = n; tried = k }) ≡ level_of left t
 unfolding level_of
 counts w = rw (le-ltb _ _ w.shallow, w.tiles_is, w.records_is, w.tried_is)
 
-pub was_deep : (left : ℕ) (t : Tree) → TooDeep ≡ level_of left t → left < deepest t
+pub was_deep : (left : ℕ) (t : Tree) → None ≡ level_of left t → left < deepest t
 unfolding level_of
 was_deep left t e = by (ltb left (deepest t)) refl e
   where
-    by : (q : Bool) → ltb left (deepest t) ≡ q → TooDeep ≡ cond q TooDeep (Within (tiles t) (record_count t) (tried t)) → left < deepest t
+    by : (q : Bool) → ltb left (deepest t) ≡ q → None ≡ cond q None (Some (counted t)) → left < deepest t
     by true f e = ltb-true _ _ f
-    by false f e = let z : ◌≡◌ {A = ℕ} 0 1 = cc in absurd (omega arith)
+    by false f e = absurd (none-some (counted t) e)
 
-pub was_counts : (left : ℕ) (t : Tree) (b : Bool) (n k : ℕ) → Within b n k ≡ level_of left t → Known left t b n k
+pub was_counts : (left : ℕ) (t : Tree) (l : Level) → Some l ≡ level_of left t → Known left t l.tiles l.records l.tried
 unfolding level_of
-was_counts left t b n k e = by (ltb left (deepest t)) refl e
+was_counts left t l e = by (ltb left (deepest t)) refl e
   where
-    by : (q : Bool) → ltb left (deepest t) ≡ q → Within b n k ≡ cond q TooDeep (Within (tiles t) (record_count t) (tried t)) → Known left t b n k
-    by true f e = let z : ◌≡◌ {A = ℕ} 0 1 = cc in absurd (omega arith)
-    by false f e = record { shallow = ltb-false _ _ f; tiles_is = cc; records_is = cc; tried_is = cc }
+    by : (q : Bool) → ltb left (deepest t) ≡ q → Some l ≡ cond q None (Some (counted t)) → Known left t l.tiles l.records l.tried
+    by true f e = absurd (none-some l (sym e))
+    by false f e =
+        let same = same_Some l (counted t) e in
+        record {
+          shallow = ltb-false _ _ f;
+          tiles_is = ap (λ (x : Level). x.tiles) same;
+          records_is = ap (λ (x : Level). x.records) same;
+          tried_is = ap (λ (x : Level). x.tried) same;
+        }
 
 -- both counts fit wherever the length does
 pub within : (D : Dictionary) (s : List ℕ) → (record_count (tree (avps D) s) ≤ length s) × (tried (tree (avps D) s) ≤ length s)
@@ -107,16 +119,16 @@ module _ {left : ℕ} {t r : Tree} {n k : ℕ} (p : Passed left t r n k) where
       }
 
   -- a header is tried too deep in what is left
-  pub then_deep : left < deepest r → TooDeep ≡ level_of left t
+  pub then_deep : left < deepest r → None ≡ level_of left t
   then_deep h = deep left t (omega arith)
 
   -- or inside the group that is there
-  pub group_deep : {a : List ℕ} {i q : Tree} → r ≡ group a i q → left - 1 < deepest i → TooDeep ≡ level_of left t
+  pub group_deep : {a : List ℕ} {i q : Tree} → r ≡ group a i q → left - 1 < deepest i → None ≡ level_of left t
   group_deep {a} {i} {q} e h = then_deep (omega (arith, ap deepest e))
 
   -- what is left is x, nothing or a broken header
   pub then_ends : (x : Tree) {m j : ℕ} → r ≡ x → deepest x ≤ left → m ≡ n + record_count x → j ≡ k + tried x
-      → Within (tiles x) m j ≡ level_of left t
+      → Some (record { tiles = tiles x; records = m; tried = j }) ≡ level_of left t
   then_ends x e d records_are tried-are =
       let q = rw e at p in
       counts (record { shallow = omega arith; tiles_is = sym q.tiles_is; records_is = omega arith; tried_is = omega arith })

@@ -1,4 +1,3 @@
 pub mod Levels
 pub mod Counts
 pub mod Lent
-pub mod AnswerOf

@@ -8,31 +8,28 @@ ghost use Rattle.rfc6733.specs.Records.{avps};
 ghost use Rattle.rfc6733.specs.Avp.{payload, complete};
 ghost use Rattle.rfc6733.specs.Decoder.{allowed};
 ghost use Rattle.front.specs.Front.{avp_of};
-ghost use Rattle.attribute.specs.ByTable.{dictionary_by};
-ghost use Rattle.count.specs.Counts.{level_of, answer_of, count_of};
+ghost use Rattle.attribute.specs.ByTable.{dictionary_of};
+ghost use Rattle.refusal.specs.Answer.{answer_of};
+ghost use Rattle.count.specs.Counts.{level_of, count_of};
 
 use attribute::Dictionary;
 use avp::AVP;
-use front::First;
 use record::kinds::GROUPED;
 use refusal::Refusal;
 
-/// How many records a run has and how many headers are tried, or why it is refused.
-#[derive(Clone, Copy)]
-pub enum Counted {
-    Fits { records: usize, tried: usize },
-    Refused(Refusal),
+/// How many records a run has, and how many headers are tried.
+#[derive(Clone, Copy, Debug, PartialEq, Eq)]
+pub struct Sums {
+    pub records: usize,
+    pub tried: usize,
 }
 
-// What the levels that are left hold of a run, or that a header is tried deeper.
+// What the levels that are left hold of a run.
 #[derive(Clone, Copy)]
-enum Level {
-    TooDeep,
-    Within {
-        tiles: bool,
-        records: usize,
-        tried: usize,
-    },
+struct Level {
+    tiles: bool,
+    records: usize,
+    tried: usize,
 }
 
 /// Is the depth limit 1..64?
@@ -46,83 +43,73 @@ pub fn allowed(limit: usize) -> bool
 }
 
 /// Counts the run `s` by a dictionary. Headers may be tried on `limit` levels, its own among them.
-pub fn count_run(d: Dictionary, kinds: &[u8], s: &[u8], limit: usize) -> Counted
-    ensures { answer_of result ≡ count_of limit (tree (avps (dictionary_by d kinds.now)) s.now) }
+pub fn count_run(d: Dictionary<'_>, s: &[u8], limit: usize) -> Result<Sums, Refusal>
+    ensures { answer_of result ≡ count_of limit (tree (avps (dictionary_of d.entry)) s.now) }
 {
     if !allowed(limit) {
-        return Counted::Refused(Refusal::BadDepth);
+        return Err(Refusal::BadDepth);
     }
-    let Level::Within {
-        tiles,
-        records,
-        tried,
-    } = count_level(d, kinds, s, limit)
-    else {
+    let Some(level) = count_level(d, s, limit) else {
         // NotTiled comes first
         if !front::tiles(s) {
-            return Counted::Refused(Refusal::NotTiled);
+            return Err(Refusal::NotTiled);
         }
-        return Counted::Refused(Refusal::TooDeep);
+        return Err(Refusal::TooDeep);
     };
-    if !tiles {
-        return Counted::Refused(Refusal::NotTiled);
+    if !level.tiles {
+        return Err(Refusal::NotTiled);
     }
-    Counted::Fits { records, tried }
+    Ok(Sums {
+        records: level.records,
+        tried: level.tried,
+    })
 }
 
-// Counts the run `s`. Headers may be tried on so many levels as are left, its own among them.
+// Counts the run `s`. Headers may be tried on so many levels as are left, its own among them; where one is tried deeper there is no count.
 #[cycle(count_group_count_level)]
-fn count_level(d: Dictionary, kinds: &[u8], s: &[u8], left: usize) -> Level
-    ensures { result ≡ level_of left (tree (avps (dictionary_by d kinds.now)) s.now) }
+fn count_level(d: Dictionary<'_>, s: &[u8], left: usize) -> Option<Level>
+    ensures { result ≡ level_of left (tree (avps (dictionary_of d.entry)) s.now) }
 {
     let mut records: usize = 0;
     let mut tried: usize = 0;
     let mut rest = s;
     while 0 < rest.len() {
         if left == 0 {
-            return Level::TooDeep;
+            return None;
         }
         tried += 1;
-        let First::Whole(a) = front::first_avp(rest) else {
-            return Level::Within {
+        let Some(a) = front::first_avp(rest) else {
+            return Some(Level {
                 tiles: false,
                 records,
                 tried,
-            };
+            });
         };
         records += 1;
-        if attribute::kind(d, kinds, a.code, a.vendor_id) == GROUPED {
-            let Level::Within {
-                tiles,
-                records: r,
-                tried: t,
-            } = count_group(d, kinds, rest, a, left - 1)
-            else {
-                return Level::TooDeep;
-            };
+        if d.kind(a.code, a.vendor_id) == GROUPED {
+            let members = count_group(d, rest, a, left - 1)?;
             // A group that does not tile has a record, and none for its members.
-            if tiles {
-                records += r;
+            if members.tiles {
+                records += members.records;
             }
-            tried += t;
+            tried += members.tried;
         }
-        let size = a.size;
-        rest = &rest[size..];
+        rest = &rest[a.size..];
     }
-    Level::Within {
+    Some(Level {
         tiles: true,
         records,
         tried,
-    }
+    })
 }
 
 // Counts the members of the group `a`, which is at the front of `s`.
 #[cycle(count_group_count_level)]
-fn count_group(d: Dictionary, kinds: &[u8], s: &[u8], a: AVP, left: usize) -> Level
+fn count_group(d: Dictionary<'_>, s: &[u8], a: AVP, left: usize) -> Option<Level>
     requires { (a ≡ avp_of s.now) × (complete s.now ≡ true) }
-    ensures { result ≡ level_of left (tree (avps (dictionary_by d kinds.now)) (payload s.now)) }
+    ensures { result ≡ level_of left (tree (avps (dictionary_of d.entry)) (payload s.now)) }
 {
     let from = a.header_size();
     let to = a.length;
-    count_level(d, kinds, &s[from..to], left)
+    count_level(d, &s[from..to], left)
 }

@@ -1,5 +1,5 @@
 -- The editions of the code as dictionaries, by their numbers.
-use Rattle.std.specs.Prelude.{ℕ, cond, List, eqb}
+use Rattle.std.specs.Prelude.{ℕ, cond, List, eqb, Option, Some, None}
 use Rattle.refusal.specs.declared.Refusal.{Refusal}
 use Rattle.refusal.specs.declared.Refusal.TheVariants.{BadDepth, BadEdition}
 use Rattle.rfc6733.specs.Dictionary.{Dictionary}
@@ -8,16 +8,14 @@ use Rattle.rfc6733.specs.CreditControl.{rfc4006, rfc8506}
 use Rattle.record.specs.Rows.{table}
 use Rattle.editions.specs.declared.Edition.{Edition}
 use Rattle.editions.specs.declared.Edition.TheVariants.{Rfc4006, Rfc8506}
-use Rattle.editions.specs.declared.Chosen.{Chosen}
-use Rattle.editions.specs.declared.Chosen.TheVariants as choice
 
 unfoldable pub dictionary : Edition → Dictionary
 dictionary Rfc4006 = rfc4006
 dictionary Rfc8506 = rfc8506
 
 -- the edition of a number
-unfoldable pub chosen : ℕ → Chosen
-chosen n = cond (eqb n 4006) (choice.Edition Rfc4006) (cond (eqb n 8506) (choice.Edition Rfc8506) choice.None)
+unfoldable pub chosen : ℕ → Option Edition
+chosen n = cond (eqb n 4006) (Some Rfc4006) (cond (eqb n 8506) (Some Rfc8506) None)
 
 -- the kinds of the codes 0 to 669, where no vendor counts
 unfoldable pub kind_table : Edition → List ℕ

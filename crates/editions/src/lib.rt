@@ -13,17 +13,10 @@ use record::kinds::UNHANDLED;
 use refusal::Refusal;
 
 /// An edition. Older gateways stay with RFC 4006.
-#[derive(Clone, Copy)]
+#[derive(Clone, Copy, Debug, PartialEq, Eq)]
 pub enum Edition {
     Rfc4006,
     Rfc8506,
-}
-
-/// What a number chooses.
-#[derive(Clone, Copy)]
-pub enum Chosen {
-    Edition(Edition),
-    None,
 }
 
 const RFC4006: u32 = 4006;
@@ -35,13 +28,14 @@ pub const CODES: usize = 670;
 
 impl Edition {
     /// The edition of a number, which is that of its RFC.
-    pub fn by_number(number: u32) -> Chosen
+    #[tactic(auto, using(std::proofs::lemmas::Bool::Decides::nat_tests), unfolding(crate::specs::Editions::chosen))]
+    pub fn by_number(number: u32) -> Option<Edition>
         ensures { result ≡ chosen number }
     {
         match number {
-            RFC4006 => Chosen::Edition(Edition::Rfc4006),
-            RFC8506 => Chosen::Edition(Edition::Rfc8506),
-            _ => Chosen::None,
+            RFC4006 => Some(Edition::Rfc4006),
+            RFC8506 => Some(Edition::Rfc8506),
+            _ => None,
         }
     }
 
@@ -53,10 +47,9 @@ impl Edition {
         let base = attribute::kind_table(Reading::Rfc);
         kinds[..base.len()].copy_from_slice(&base);
         kinds[FIRST..FIRST + KINDS.len()].copy_from_slice(&KINDS);
-        let Edition::Rfc8506 = self else {
-            return kinds;
-        };
-        kinds[ADDED_FIRST..].copy_from_slice(&ADDED);
+        if let Edition::Rfc8506 = self {
+            kinds[ADDED_FIRST..].copy_from_slice(&ADDED);
+        }
         kinds
     }
 }

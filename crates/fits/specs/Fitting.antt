@@ -7,7 +7,8 @@ use Rattle.record.specs.Refusals.{place_refusals}
 use Rattle.rfc6733.specs.Dictionary.{Dictionary}
 use Rattle.rfc6733.specs.Records.{avps}
 use Rattle.rfc6733.specs.Decoder.{limit_refusals, run_refusals}
-use Rattle.count.specs.Counts.{Sums, sums}
+use Rattle.count.specs.declared.Sums.{Sums}
+use Rattle.count.specs.Counts.{sums}
 
 -- by the dictionary, the depth limit, how many records there is room for, the place and the run
 abbrev pub refusals : Dictionary → ℕ → ℕ → ℕ → List ℕ → List Test

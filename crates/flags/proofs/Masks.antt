@@ -1,12 +1,8 @@
 -- A flags byte by masks, as the code asks it, and by division, as the definition says it. Said once over the bit.
-use Prim.Native.Nat.{ℕ, zero, suc, ◌+◌, ◌-◌, ◌*◌, ◌/◌, ◌%◌, ◌^◌, ◌<◌}
-use mathlib.Core.Path.{◌≡◌}
-use mathlib.Core.Bool.{not}
-use native.Mathlib.Nat.{pow-suc}
-use native.Mathlib.Numerals.{one-add}
-use native.Mathlib.Omega.{arith}
+use Rattle.std.proofs.Common.{◌≡◌, ℕ, zero, suc, ◌*◌, ◌/◌, ◌%◌, ◌^◌, ◌<◌, not, arith}
+use Rattle.std.proofs.lemmas.Nat.Bits.{and_pow}
 use lib.Dec.{eqb}
-use lib.Bits.{bit_and, and_high}
+use lib.Bits.{bit_and}
 use lib.Pow.{pow_pos}
 use borrow.Author.Tests.{eq-eqb, ne_eqb}
 use Rattle.flags.specs.Flags.{bit}
@@ -20,7 +16,4 @@ one_bit n m (suc (suc b)) e h l = absurd (omega arith)
 -- the mask of bit k
 pub mask_bit : (k n : ℕ) → not (eqb (bit_and n (2 ^ k)) 0) ≡ bit k n
 unfolding bit
-mask_bit k n =
-    let twice : 2 ^ (1 + k) - 2 ^ k ≡ 2 ^ k = rw (one-add, pow-suc) (omega arith) in
-    let half : bit_and n (2 ^ k) ≡ n / 2 ^ k % 2 * 2 ^ k = rw twice at (and_high n 1 k) in
-    one_bit n (2 ^ k) (n / 2 ^ k % 2) half (pow_pos k) (omega arith)
+mask_bit k n = one_bit n (2 ^ k) (n / 2 ^ k % 2) (and_pow n k) (pow_pos k) (omega arith)

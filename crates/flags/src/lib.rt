@@ -6,7 +6,7 @@ ghost use Rattle.std.specs.Prelude.{◌≡◌};
 ghost use Rattle.flags.specs.Flags.{flag, join};
 
 /// Flags identify messages which parse successfully but contain invalid data.
-#[derive(Clone, Copy)]
+#[derive(Clone, Copy, Debug, PartialEq, Eq)]
 pub enum ErrorFlags {
     DataValue = 0b0000_0001,
     DataLength = 0b0000_0010,
@@ -22,6 +22,7 @@ pub fn raised(on: bool, bits: u8) -> u8
 }
 
 /// Flags of either.
+#[tactic(auto, unfolding(crate::specs::Flags::join))]
 pub fn join(a: u8, b: u8) -> u8
     ensures { result ≡ join a b }
 {

@@ -1,4 +1,3 @@
-pub mod AnswerOf
 pub mod Fields
 pub mod Fronts
 pub mod Refusals

@@ -14,11 +14,10 @@ use Rattle.refusal.proofs.Answers.{accepts}
 use Rattle.rfc6733.proofs.Complete as rfc
 use Rattle.rfc6733.proofs.Complete.{complete_whole, whole_complete}
 use Rattle.refusal.specs.declared.Refusal.TheVariants.{Incomplete, BadLength}
-use Rattle.refusal.specs.Answer.{refused}
+use Rattle.std.specs.Prelude.{Some, None, Ok}
+use Rattle.refusal.specs.Answer.{refused, answer_of}
 use Rattle.avp.specs.declared.AVP.{AVP}
-use Rattle.front.specs.declared.First.TheVariants as found
-use Rattle.front.specs.declared.ParsedAvp.TheVariants.{Accepted}
-use Rattle.front.specs.Front.{avp_of, first_of, answer_of, parsed_of}
+use Rattle.front.specs.Front.{avp_of, first_of, parsed_of}
 
 module _ (s : List ℕ) where
   pub not_complete : (rfc.Whole s → ⊥) → complete s ≡ false
@@ -37,16 +36,16 @@ module _ (s : List ℕ) where
       by false t =
           absurd (false_true (sym e ∙ whole_complete s (record { eight = eight; long = long; room = ltb-false _ _ t })))
 
-  pub broken : complete s ≡ false → found.Broken ≡ first_of s
+  pub broken : complete s ≡ false → None ≡ first_of s
   unfolding first_of
   broken e = rw e
 
-  pub whole : rfc.Whole s → (a : AVP) → a ≡ avp_of s → found.Whole a ≡ first_of s
+  pub whole : rfc.Whole s → (a : AVP) → a ≡ avp_of s → Some a ≡ first_of s
   unfolding first_of
   whole w a e = rw (whole_complete s w, e)
 
-  pub accepted_whole : complete s ≡ true → (a : AVP) → a ≡ avp_of s → answer_of (Accepted a) ≡ parsed_of s
-  unfolding answer_of parsed_of complete
+  pub accepted_whole : complete s ≡ true → (a : AVP) → a ≡ avp_of s → answer_of (Ok a) ≡ parsed_of s
+  unfolding parsed_of complete
   accepted_whole t a e = rw e (sym (accepts (avp_refusals s) (avp_of s) t))
 
   pub under_four : length s < 4 → refused (Incomplete (4 - length s)) ≡ parsed_of s

@@ -6,26 +6,12 @@ ghost use Rattle.std.specs.Prelude.{◌+◌, ◌≤◌, ◌≡◌, false, length
 ghost use Rattle.octets.specs.Octets.{be};
 ghost use Rattle.rfc6733.specs.Avp.{flags, head_size, vendor, complete};
 ghost use Rattle.rfc6733.specs.Records.{tiling};
-ghost use Rattle.refusal.specs.Answer.{refused};
-ghost use Rattle.front.specs.Front.{first_of, answer_of, parsed_of};
+ghost use Rattle.refusal.specs.Answer.{refused, answer_of};
+ghost use Rattle.front.specs.Front.{first_of, parsed_of};
 
 use avp::AVP;
-use octets::at_hand::Available;
+use octets::at_hand;
 use refusal::Refusal;
-
-/// What is at the front of a slice, as a run asks it: a complete AVP, or none.
-#[derive(Clone, Copy)]
-pub enum First {
-    Whole(AVP),
-    Broken,
-}
-
-/// What is at the front of a slice: a complete AVP, or the refusal.
-#[derive(Clone, Copy)]
-pub enum ParsedAvp {
-    Accepted(AVP),
-    Refused(Refusal),
-}
 
 // Four bytes of `s` as a number.
 fn word(s: &[u8], at: usize) -> u32
@@ -65,8 +51,8 @@ fn refusal(s: &[u8]) -> Refusal
     if length < AVP::PRE_LENGTH_SIZE {
         return Refusal::BadLength;
     }
-    if let Available::Absent(absent) = octets::at_hand::length(length, available) {
-        return Refusal::Incomplete(absent);
+    if let Err(absent) = at_hand::length(length, available) {
+        return Refusal::from(absent);
     }
     let header_size = AVP::header_size_of(s[4]);
     if length < header_size {
@@ -76,12 +62,12 @@ fn refusal(s: &[u8]) -> Refusal
 }
 
 /// The AVP at the front of `s`, if it is complete. Three tests tell.
-pub fn first_avp(s: &[u8]) -> First
+pub fn first_avp(s: &[u8]) -> Option<AVP>
     ensures { result ≡ first_of s.now }
 {
     let available = s.len();
     if available < AVP::PRE_LENGTH_SIZE {
-        return First::Broken;
+        return None;
     }
     // A byte of flags, and three of the length (RFC 6733, section 4.1).
     let flags_length = word(s, 4);
@@ -89,13 +75,13 @@ pub fn first_avp(s: &[u8]) -> First
     let length = (flags_length % 0x100_0000) as usize;
     let header_size = AVP::header_size_of(flags);
     if length < header_size {
-        return First::Broken;
+        return None;
     }
     let size = length + AVP::padding(length - header_size);
     if available < size {
-        return First::Broken;
+        return None;
     }
-    First::Whole(AVP {
+    Some(AVP {
         code: word(s, 0),
         flags,
         length,
@@ -105,12 +91,12 @@ pub fn first_avp(s: &[u8]) -> First
 }
 
 /// The AVP at the front of `s`, or the first refusal.
-pub fn parse(s: &[u8]) -> ParsedAvp
+pub fn parse(s: &[u8]) -> Result<AVP, Refusal>
     ensures { answer_of result ≡ parsed_of s.now }
 {
     match first_avp(s) {
-        First::Whole(a) => ParsedAvp::Accepted(a),
-        First::Broken => ParsedAvp::Refused(refusal(s)),
+        Some(a) => Ok(a),
+        None => Err(refusal(s)),
     }
 }
 
@@ -125,12 +111,9 @@ pub fn pads(p: &[u8]) -> u32
 pub fn tiles(s: &[u8]) -> bool
     ensures { result ≡ tiling s.now }
 {
-    let mut at: usize = 0;
-    while at < s.len() {
-        let First::Whole(a) = first_avp(&s[at..]) else {
-            return false;
-        };
-        at += a.size;
+    let mut rest = s;
+    while let Some(a) = first_avp(rest) {
+        rest = &rest[a.size..];
     }
-    true
+    rest.is_empty()
 }

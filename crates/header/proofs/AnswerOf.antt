@@ -1,13 +1,13 @@
--- A contract that says `answer_of r ≡ ..` names one outcome: the outcome can be read back from its answer, since a header is told by
--- its seven fields, and a refusal is the answer's own. So two outcomes with the same answer are the same.
-use mathlib.Core.Path.{◌≡◌, refl, sym, ap, ◌∙◌}
-use Rattle.refusal.specs.Answer.{Answer, accepted, refused}
+-- The contract of `Header::parse` names one outcome: a header is told by its seven fields, so the outcome can be read back from its answer.
+use mathlib.Core.Path.{◌≡◌, refl}
+use Rattle.std.specs.Prelude.{Result}
+use Rattle.refusal.specs.Answer.{Refusal}
+use Rattle.refusal.proofs.AnswerOf.{answer_by_injective}
 use Rattle.rfc6733.specs.Header as rfc
 use Rattle.rfc6733.specs.Decoder.{Message}
 use Rattle.header.specs.declared.Header.{Header}
 use Rattle.header.specs.declared.Parsed.{Parsed}
-use Rattle.header.specs.declared.Parsed.TheVariants.{Accepted, Refused}
-use Rattle.header.specs.Parsed.{header_as, answer_of}
+use Rattle.header.specs.Parsed.{header_as, parsed_as, answer_of}
 
 abbrev pub header_back : rfc.Header → Header
 header_back h =
@@ -21,14 +21,12 @@ header_back h =
       end_id = h.end_id;
     }
 
-abbrev outcome_back : Answer Message → Parsed
-outcome_back (accepted m) = Accepted (header_back m.header) m.counts.errors
-outcome_back (refused why) = Refused why
+abbrev parsed_back : Message → Parsed
+parsed_back m = record { header = header_back m.header; errors = m.counts.errors }
 
-outcome_is_back : (r : Parsed) → outcome_back (answer_of r) ≡ r
-unfolding header_as answer_of
-outcome_is_back (Accepted h e) = refl
-outcome_is_back (Refused why) = refl
+parsed_is_back : (p : Parsed) → parsed_back (parsed_as p) ≡ p
+unfolding header_as
+parsed_is_back p = refl
 
-pub answer_of_injective : (r r' : Parsed) → answer_of r ≡ answer_of r' → r ≡ r'
-answer_of_injective r r' e = sym (outcome_is_back r) ∙ ap outcome_back e ∙ outcome_is_back r'
+pub answer_of_injective : (r r' : Result Parsed Refusal) → answer_of r ≡ answer_of r' → r ≡ r'
+answer_of_injective r r' e = answer_by_injective parsed_as parsed_back parsed_is_back r r' e

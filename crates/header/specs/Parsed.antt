@@ -1,10 +1,10 @@
 -- What reading a header answers, as an answer of the definition.
-use Rattle.refusal.specs.Answer.{Answer, accepted, refused}
+use Rattle.std.specs.Prelude.{Result}
+use Rattle.refusal.specs.Answer.{Refusal, Answer, answer_by}
 use Rattle.rfc6733.specs.Header as rfc
 use Rattle.rfc6733.specs.Decoder.{Message}
 use Rattle.header.specs.declared.Header.{Header}
 use Rattle.header.specs.declared.Parsed.{Parsed}
-use Rattle.header.specs.declared.Parsed.TheVariants.{Accepted, Refused}
 
 -- a header of the code as one of the definition
 unfoldable pub header_as : Header → rfc.Header
@@ -20,7 +20,9 @@ header_as h =
     }
 
 -- no records, none tried, and 20 as the length
-unfoldable pub answer_of : Parsed → Answer Message
-answer_of (Accepted h e) =
-    accepted (record { header = header_as h; counts = record { errors = e; records = 0; tried = 0; length = rfc.header_size } })
-answer_of (Refused r) = refused r
+abbrev pub parsed_as : Parsed → Message
+parsed_as p =
+    record { header = header_as p.header; counts = record { errors = p.errors; records = 0; tried = 0; length = rfc.header_size } }
+
+abbrev pub answer_of : Result Parsed Refusal → Answer Message
+answer_of r = answer_by parsed_as r

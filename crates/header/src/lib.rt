@@ -9,10 +9,10 @@ ghost use Rattle.rfc6733.specs.Decoder.{header_alone};
 ghost use Rattle.header.specs.Parsed.{header_as, answer_of};
 
 use flags::ErrorFlags;
-use octets::at_hand::Available;
+use octets::at_hand;
 use refusal::Refusal;
 
-#[derive(Clone, Copy)]
+#[derive(Clone, Copy, Debug, PartialEq, Eq)]
 pub struct Header {
     pub version: u8,
     /// Actually u24
@@ -25,11 +25,11 @@ pub struct Header {
     pub end_id: u32,
 }
 
-/// What reading a header answers: the header with its own error flags, or the refusal.
-#[derive(Clone, Copy)]
-pub enum Parsed {
-    Accepted { header: Header, errors: u8 },
-    Refused(Refusal),
+/// A header that was accepted, with its own error flags.
+#[derive(Clone, Copy, Debug, PartialEq, Eq)]
+pub struct Parsed {
+    pub header: Header,
+    pub errors: u8,
 }
 
 impl Header {
@@ -132,33 +132,27 @@ impl Header {
     }
 
     /// The header alone, of an input that holds the whole message: the length that it states must be at hand.
-    pub fn parse(input: &[u8]) -> Parsed
+    pub fn parse(input: &[u8]) -> Result<Parsed, Refusal>
         ensures { answer_of result ≡ header_alone input.now }
     {
         let available = input.len();
-        if available < 1 {
-            return Parsed::Refused(Refusal::Incomplete(1));
-        }
+        at_hand::length(1, available)?;
         if input[0] != Self::VERSION {
-            return Parsed::Refused(Refusal::NotVersion);
+            return Err(Refusal::NotVersion);
         }
-        if available < Self::PRE_LENGTH_SIZE {
-            return Parsed::Refused(Refusal::Incomplete(Self::PRE_LENGTH_SIZE - available));
-        }
+        at_hand::length(Self::PRE_LENGTH_SIZE, available)?;
         let stated = octets::be_u24(input[1], input[2], input[3]) as usize;
         if stated < Self::PRE_LENGTH_SIZE {
-            return Parsed::Refused(Refusal::BadLength);
+            return Err(Refusal::BadLength);
         }
-        if let Available::Absent(absent) = octets::at_hand::length(stated, available) {
-            return Parsed::Refused(Refusal::Incomplete(absent));
-        }
+        at_hand::length(stated, available)?;
         if stated < Self::SIZE {
-            return Parsed::Refused(Refusal::BadLength);
+            return Err(Refusal::BadLength);
         }
         let header = Self::fields(input);
-        Parsed::Accepted {
+        Ok(Parsed {
             header,
             errors: Self::error_flags(header.flags),
-        }
+        })
     }
 }

@@ -44,10 +44,10 @@ module _ (r : Record) (n : ℕ) (l : List ℕ) where
   unfolding octets
   head_put e h = rw e (all_bytes_put (pack (field 4 r.code ∷ field 1 r.flags ∷ field 3 n ∷ [])) l h)
 
-  pub vendor_put : bit vendor_bit r.flags ≡ true → head_of r ≤ length l
+  pub vendor_put : bit vendor_bit r.flags ≡ true → 12 ≤ length l
       → sets (sets (sets l 0 (octets 4 r.code)) 4 (octets 1 r.flags ++ octets 3 n)) 8 (octets 4 r.vendor)
       ≡ put_all (pack (head_fields r n)) l
   unfolding octets
   vendor_put e h =
       let fs = field 4 r.code ∷ field 1 r.flags ∷ field 3 n ∷ field 4 r.vendor ∷ [] in
-      rw e (all_bytes_put (pack fs) l (rw (with_vendor r e) at h))
+      rw e (all_bytes_put (pack fs) l h)

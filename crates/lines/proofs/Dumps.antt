@@ -1,14 +1,11 @@
 -- The text of an input, by what the decoder answers: the records that it stored are read back whole, so their lines are those of the
 -- definition, and the text fits.
-use Prim.Native.Nat.{ℕ, ◌*◌, ◌-◌, ◌≤◌, min}
-use mathlib.Core.Path.{◌≡◌, refl, sym, ap, ap₂, ◌∙◌}
-use mathlib.Core.Bool.{Bool, true, false}
+use Prim.Native.Nat.{ℕ, ◌*◌, ◌-◌, ◌≤◌}
+use mathlib.Core.Path.{◌≡◌, sym, ap, ap₂, ◌∙◌}
 use mathlib.Core.List.{List, ◌++◌}
 use native.Mathlib.Omega.{arith}
 use lib.ListN.{length, take, replicate, length-append}
-use lib.Seq.{take_all, length-take-le}
-use lib.Dec.{leb}
-use borrow.Author.Tests.{leb-true, leb-false}
+use lib.Seq.{length-take-le}
 use Rattle.io.specs.Counts as io
 use Rattle.octets.specs.Octets.{Bytes, over, Put}
 use Rattle.octets.proofs.Lists.{over_length}
@@ -27,14 +24,6 @@ use Rattle.round_trip.proofs.Whole.{sawp_whole}
 use Rattle.record.proofs.Back.{Whole, records_back}
 use Rattle.lines.specs.Text.{records_text, message_text}
 use Rattle.lines.proofs.Sizes.{records_short, first_short, refusal_short}
-
--- the front of an input, no more than k bytes
-pub front_is : (k n : ℕ) (s : List ℕ) → n ≡ min (length s) k → take n s ≡ take k s
-front_is k n s e = by (leb (length s) k) refl
-  where
-    by : (b : Bool) → leb (length s) k ≡ b → take n s ≡ take k s
-    by true f = let h = leb-true (length s) k f in take_all n s (omega arith) ∙ sym (take_all k s h)
-    by false f = let h = leb-false (length s) k f in let same : n ≡ k = omega arith in ap (λ (x : ℕ). take x s) same
 
 -- the text of an input is `text`, and an array of 76,875 bytes has room for it
 pub record Text (s text : List ℕ) : Type 0 where

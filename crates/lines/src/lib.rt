@@ -2,16 +2,16 @@
 // The text is put into a lent array; this crate reads and writes no files.
 #![tactic(auto)]
 
-ghost use Rattle.std.specs.Prelude.{◌≡◌, [], ◌∷◌, ◌++◌, ◌≤◌, ◌<◌, min, length};
+ghost use Rattle.std.specs.Prelude.{◌≡◌, [], ◌∷◌, ◌++◌, ◌*◌, ◌≤◌, ◌<◌, length};
 ghost use Rattle.io.specs.Counts.{IsPrefixLen};
 ghost use Rattle.octets.specs.Octets.{over, Put};
-ghost use Rattle.record.specs.Record.{record_at};
+ghost use Rattle.record.specs.Record.{record_size, record_at};
 ghost use Rattle.rfc6733.specs.Dump.{record_line, decimal, line, dumped, refusal_text};
 ghost use Rattle.diameter.specs.Answers.{message_as};
-ghost use Rattle.lines.specs.Text.{Room, records_text, message_text};
+ghost use Rattle.lines.specs.Text.{records_text, message_text};
 
 use attribute::Reading;
-use diameter::{Decoded, Message};
+use diameter::Message;
 use record::Record;
 use refusal::Refusal;
 
@@ -30,6 +30,7 @@ pub const SIZE: usize = (RECORDS + 1) * LINE;
 const MOST_DIGITS: usize = 20;
 
 // Puts a number in decimal, and a byte after it.
+#[tactic(auto, using(crate::proofs::Puts::number_put), unfolding(octets::specs::Octets::over))]
 fn put_number(n: u64, after: u8, out: &mut [u8]) -> usize
     requires { length (decimal n) < length out.old }
     ensures { Put result (decimal n ++ (after ∷ [])) out.old out.new }
@@ -43,15 +44,18 @@ fn put_number(n: u64, after: u8, out: &mut [u8]) -> usize
 
 // Puts a line of numbers.
 fn put_line(numbers: &[u64], out: &mut [u8]) -> usize
-    requires { (1 ≤ length numbers.now) × (length (line numbers.now) ≤ length out.old) }
+    requires not_empty { 1 ≤ length numbers.now }
+    requires fits { length (line numbers.now) ≤ length out.old }
     ensures { Put result (line numbers.now) out.old out.new }
 {
-    let last = numbers.len() - 1;
-    let mut at: usize = 0;
-    for i in 0..last {
-        at += put_number(numbers[i], b' ', &mut out[at..]);
+    let [others @ .., last] = numbers else {
+        unreachable!()
+    };
+    let mut at = 0;
+    for n in others {
+        at += put_number(*n, b' ', &mut out[at..]);
     }
-    at + put_number(numbers[last], b'\n', &mut out[at..])
+    at + put_number(*last, b'\n', &mut out[at..])
 }
 
 // Puts the line of the record at the front of a table.
@@ -75,19 +79,22 @@ fn put_record(table: &[u8], out: &mut [u8]) -> usize
 
 // Puts a line for each of the first records of a table.
 fn put_records(table: &[u8], records: usize, out: &mut [u8]) -> usize
-    requires { Room records table.now (records_text records table.now) out.old }
+    requires stored { records * record_size ≤ length table.now }
+    requires fits { length (records_text records table.now) ≤ length out.old }
     ensures { Put result (records_text records table.now) out.old out.new }
 {
-    let mut at: usize = 0;
-    for i in 0..records {
-        at += put_record(&table[i * Record::SIZE..], &mut out[at..]);
+    let mut at = 0;
+    for row in table.chunks_exact(Record::SIZE).take(records) {
+        at += put_record(row, &mut out[at..]);
     }
     at
 }
 
 // Puts the lines of a message that was accepted.
+#[tactic(auto, unfolding(diameter::specs::Answers::message_as))]
 fn put_message(m: Message, table: &[u8], out: &mut [u8]) -> usize
-    requires { Room m.records table.now (message_text (message_as m).counts table.now) out.old }
+    requires stored { m.records * record_size ≤ length table.now }
+    requires fits { length (message_text (message_as m).counts table.now) ≤ length out.old }
     ensures { Put result (message_text (message_as m).counts table.now) out.old out.new }
 {
     let numbers = [
@@ -112,12 +119,6 @@ fn put_refusal(why: Refusal, out: &mut [u8]) -> usize
     at + put_line(&numbers, &mut out[at..])
 }
 
-fn least(a: usize, b: usize) -> usize
-    ensures { result ≡ min a b }
-{
-    if a < b { a } else { b }
-}
-
 /// Puts the dump of `input` at the front of `out`, and answers its size.
 pub fn dump(input: &[u8], out: &mut [u8; SIZE]) -> usize
     ensures text { out.new ≡ over (dumped input.now) out.old }
@@ -125,14 +126,14 @@ pub fn dump(input: &[u8], out: &mut [u8; SIZE]) -> usize
     ensures within { IsPrefixLen result out.new }
 {
     let mut store = [0u8; RECORDS * Record::SIZE];
-    let front = least(input.len(), INPUT);
+    let front = INPUT.min(input.len());
     match diameter::parse(
         Reading::Sawp,
         diameter::MOST_DEPTH,
         &input[..front],
         &mut store,
     ) {
-        Decoded::Accepted(m) => put_message(m, &store, out),
-        Decoded::Refused(why) => put_refusal(why, out),
+        Ok(m) => put_message(m, &store, out),
+        Err(why) => put_refusal(why, out),
     }
 }

@@ -5,8 +5,8 @@ use mathlib.Core.Path.{◌≡◌, refl}
 use mathlib.Core.Bool.{Bool, true, false, cond}
 use lib.Dec.{ltb}
 use borrow.Author.Tests.{ltb-true, ltb-false}
-use Rattle.octets.specs.declared.at_hand.Available.{Available}
-use Rattle.octets.specs.declared.at_hand.Available.TheVariants.{Enough, Absent}
+use Rattle.std.specs.Prelude.{⊤, Result, Ok, Err}
+use Rattle.octets.specs.declared.at_hand.Absent.{Absent}
 use Rattle.octets.specs.AtHand.{available_of}
 
 module _ (stated available : ℕ) where
@@ -16,14 +16,20 @@ module _ (stated available : ℕ) where
     pub missing : n ≡ stated - available
 
   -- what an answer says
-  abbrev pub Says : Available → Type 0
-  Says Enough = stated ≤ available
-  Says (Absent n) = Missing n
+  abbrev pub Says : Result ⊤ Absent → Type 0
+  Says (Ok all) = stated ≤ available
+  Says (Err absent) = Missing absent.0
 
-  by_test : (b : Bool) → ltb available stated ≡ b → Says (cond b (Absent (stated - available)) Enough)
+  by_test : (b : Bool) → ltb available stated ≡ b → Says (cond b (Err (record { 0 = stated - available })) (Ok (record {})))
   by_test true t = record { fewer = ltb-true _ _ t; missing = refl }
   by_test false t = ltb-false _ _ t
 
-  pub says : (a : Available) → a ≡ available_of stated available → Says a
-  unfolding available_of
+  pub says : (a : Result ⊤ Absent) → a ≡ available_of stated available → Says a
   says a e = rw e (by_test (ltb available stated) refl)
+
+  -- each answer by itself, as it stands where the function has returned
+  pub missing_of : {absent : Absent} → Err absent ≡ available_of stated available → Missing absent.0
+  missing_of e = says (Err _) e
+
+  pub at_hand_of : {all : ⊤} → Ok all ≡ available_of stated available → stated ≤ available
+  at_hand_of e = says (Ok _) e

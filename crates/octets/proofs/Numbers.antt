@@ -6,7 +6,7 @@ use mathlib.Core.List.{List, [], ◌∷◌, ◌++◌, append_assoc, append-nil}
 use native.Mathlib.Nat.{pow-suc, pow-succ', mod-one, div-one, div-div-eq-div-mul, zero-add, add-zero, add-suc, add_assoc, one-le-pow, zero-lt-suc, mod-lt}
 use native.Mathlib.Omega.{arith}
 use lib.Arith.{mod-mul, digits_div, digits_mod}
-use lib.ListN.{length, get_or, take, drop, length-append, length-drop, get_or-append, get_or-eq_default}
+use lib.ListN.{length, get_or, take, drop, length-append, length-drop, get_or-append}
 use lib.Seq.{get_or_at, get_or-append-add, get_or-take, get_or-drop, take-suc, take_all}
 use Rattle.octets.specs.Octets.{be, octets, Field, field, pack, widths, Bytes, Reads}
 
@@ -47,12 +47,6 @@ byte_at (suc n) s i (suc j) h = byte_at n s (i + 1) j (omega arith) ∙ ap (λ (
 
 pub read_at : (n : ℕ) (s : List ℕ) (i r : ℕ) → Reads n (bytes n s i) r → r ≡ be n s i
 read_at n s i r h = h.is ∙ be_same n (bytes n s i) s 0 i (λ j l. rw zero-add (byte_at n s i j l))
-
--- where all its bytes are absent
-pub be_absent : (n : ℕ) (s : List ℕ) (i : ℕ) → length s ≤ i → be n s i ≡ 0
-unfolding be
-be_absent zero s i h = refl
-be_absent (suc n) s i h = omega (arith, be_absent n s i h, get_or-eq_default s 0 {n = i + n} (omega arith))
 
 -- the high bytes and the low ones
 pub read_parts : (m n : ℕ) (s : List ℕ) (i : ℕ) → be (m + n) s i ≡ be m s i * 256 ^ n + be n s (i + m)

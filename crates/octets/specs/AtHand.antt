@@ -1,8 +1,7 @@
 -- The bytes of a length that are at hand.
-use Rattle.std.specs.Prelude.{ℕ, ◌-◌, cond, ltb}
-use Rattle.octets.specs.declared.at_hand.Available.{Available}
-use Rattle.octets.specs.declared.at_hand.Available.TheVariants.{Enough, Absent}
+use Rattle.std.specs.Prelude.{ℕ, ◌-◌, cond, ltb, ⊤, Result, Ok, Err}
+use Rattle.octets.specs.declared.at_hand.Absent.{Absent}
 
 -- are the bytes of a length at hand, and how many are absent?
-unfoldable pub available_of : ℕ → ℕ → Available
-available_of length at_hand = cond (ltb at_hand length) (Absent (length - at_hand)) Enough
+abbrev pub available_of : ℕ → ℕ → Result ⊤ Absent
+available_of length at_hand = cond (ltb at_hand length) (Err (record { 0 = length - at_hand })) (Ok (record {}))

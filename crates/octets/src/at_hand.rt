@@ -2,20 +2,17 @@
 ghost use Rattle.std.specs.Prelude.{◌≡◌};
 ghost use Rattle.octets.specs.AtHand.{available_of};
 
-/// Are as many bytes at hand as a length states?
-#[derive(Clone, Copy)]
-pub enum Available {
-    Enough,
-    Absent(usize),
-}
+/// So many of the bytes that a length states are absent.
+#[derive(Clone, Copy, Debug, PartialEq, Eq)]
+pub struct Absent(pub usize);
 
 /// Whether the bytes of a length are at hand. The length comes first: with the numbers exchanged it would say how many are left over.
 /// The bytes that were read before the length count in both.
-pub fn length(length: usize, available: usize) -> Available
+pub fn length(length: usize, available: usize) -> Result<(), Absent>
     ensures { result ≡ available_of length available }
 {
     if available < length {
-        return Available::Absent(length - available);
+        return Err(Absent(length - available));
     }
-    Available::Enough
+    Ok(())
 }

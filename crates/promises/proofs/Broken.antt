@@ -9,12 +9,12 @@ use mathlib.Core.List.{List}
 use native.Mathlib.Omega.{arith}
 use lib.ListN.{length, take}
 use contract.Lifetimes.{Lfts}
+use Rattle.std.specs.Prelude.{⊤, Result, Ok, Err}
 use Rattle.octets.specs.Octets.{Bytes}
 use Rattle.octets.specs.Run.{item}
 use Rattle.rfc3629.specs.Syntax.{Utf8Octets}
 use Rattle.rfc3629.specs.Prefix.{LongestPrefix}
-use Rattle.utf8.specs.declared.Utf8.{Utf8}
-use Rattle.utf8.specs.declared.Utf8.TheVariants.{WellFormed, ValidUpTo}
+use Rattle.utf8.specs.declared.Utf8Error.{Utf8Error}
 use Rattle.rfc3629.proofs.Grammar.{well_formed_is}
 use Rattle.rfc3629.proofs.Prefixes.{longest, one_longest, broke_before_end}
 use Rattle.utf8.proofs.Answers.{says}
@@ -31,11 +31,9 @@ use Rattle.round_trip.proofs.Whole.{whole, alone_whole}
 use Rattle.record.proofs.Back.{every_back}
 use Rattle.round_trip.proofs.Breaks.{every_tells}
 use Rattle.avps.specs.declared.Counts.{Counts}
-use Rattle.avps.specs.declared.Filled.TheVariants as filled
 use Rattle.avps.specs.Answers as avps
 use Rattle.diameter.specs.declared.Message.{Message}
-use Rattle.diameter.specs.declared.Decoded.TheVariants as decoder
-use Rattle.diameter.specs.Answers.{answer_of, message_as}
+use Rattle.diameter.specs.Answers.{message_as}
 use Rattle.promises.proofs.OneOutcome.Calls.{Slice, MutSlice, Check, IsUtf8, TandrekilyUtf8}
 use Rattle.promises.proofs.Ways.{Way, dictionary_of, Decode, accepts, DecodeAlone, accepts_alone, lawful, address_small, address_silent}
 use Rattle.promises.proofs.RoundTrip.{left}
@@ -43,21 +41,22 @@ use Rattle.promises.proofs.RoundTrip.{left}
 -- ---- the check
 
 -- what an answer says of a text
-abbrev pub Right : List ℕ → Utf8 → Type 0
-Right s WellFormed = Utf8Octets s
-Right s (ValidUpTo n) = (n < length s) × LongestPrefix s n
+abbrev pub Right : List ℕ → Result ⊤ Utf8Error → Type 0
+Right s (Ok all) = Utf8Octets s
+Right s (Err why) = (why.valid_up_to < length s) × LongestPrefix s why.valid_up_to
 
-pub check_is_right : (κs : Lfts 1) (s : Slice) (r : Utf8) → Check κs s r → Right s.now r
-check_is_right κs s WellFormed p = (well_formed_is s.now).0 (says s.now WellFormed p)
-check_is_right κs s (ValidUpTo n) p =
-    let b = says s.now (ValidUpTo n) p in
+pub check_is_right : (κs : Lfts 1) (s : Slice) (r : Result ⊤ Utf8Error) → Check κs s r → Right s.now r
+check_is_right κs s (Ok all) p = (well_formed_is s.now).0 (says s.now (Ok all) p)
+check_is_right κs s (Err why) p =
+    let b = says s.now (Err why) p in
     rw (← b.up_to) (broke_before_end s.now b.ill_formed, longest s.now)
 
 -- `is_utf8` is its first case
-pub first_case : (κs λs : Lfts 1) (s : Slice) (r : Utf8) (b : Bool) → Check κs s r → IsUtf8 λs s b → (b ≡ true) ↔ (r ≡ WellFormed)
-first_case κs λs s WellFormed b p q = (λ e. refl, λ e. q ∙ says s.now WellFormed p)
-first_case κs λs s (ValidUpTo n) b p q = (
-  λ e. absurd (false≢true (sym (says s.now (ValidUpTo n) p).ill_formed ∙ sym q ∙ e)),
+pub first_case : (κs λs : Lfts 1) (s : Slice) (r : Result ⊤ Utf8Error) (b : Bool) → Check κs s r → IsUtf8 λs s b
+    → (b ≡ true) ↔ (r ≡ Ok (record {}))
+first_case κs λs s (Ok all) b p q = (λ e. refl, λ e. q ∙ says s.now (Ok all) p)
+first_case κs λs s (Err why) b p q = (
+  λ e. absurd (false≢true (sym (says s.now (Err why) p).ill_formed ∙ sym q ∙ e)),
   λ e. let none : ◌≡◌ {A = ℕ} 0 1 = cc in absurd (omega arith),
 )
 
@@ -70,9 +69,9 @@ utf8_exactly κs text r n p =
 
 -- a decoder accepted m and left its records in store'. `Bytes` is asked as in RoundTrip
 pub each_tells_break : (way : Way) (κs : Lfts 2) (limit : ℕ) (input : Slice) (store : MutSlice) (m : Message) (store' : MutSlice)
-    → Decode way κs limit input store (decoder.Accepted m) store' → Bytes input.now
+    → Decode way κs limit input store (Ok m) store' → Bytes input.now
     → Every (TellsBreak (dictionary_of way) input.now) (whole_records m.records store'.now)
-unfolding answer_of stored message_records message_body
+unfolding stored message_records message_body
 each_tells_break way κs limit input store m store' p bytes =
     let D = dictionary_of way in
     let s = input.now in
@@ -85,9 +84,9 @@ each_tells_break way κs limit input store m store' p bytes =
 
 -- the same of one AVP alone
 pub each_tells_alone : (way : Way) (κs : Lfts 2) (limit : ℕ) (input : Slice) (store : MutSlice) (c : Counts) (store' : MutSlice)
-    → DecodeAlone way κs limit input store (filled.Accepted c) store' → Bytes input.now
+    → DecodeAlone way κs limit input store (Ok c) store' → Bytes input.now
     → Every (TellsBreak (dictionary_of way) input.now) (whole_records c.records store'.now)
-unfolding avps.answer_of avps.counts_as stored alone_of run_counts alone_records item
+unfolding avps.counts_as stored alone_of run_counts alone_records item
 each_tells_alone way κs limit input store c store' p bytes =
     let D = dictionary_of way in
     let s = input.now in

@@ -6,6 +6,8 @@ use mathlib.Core.Path.{◌≡◌, sym, ap, ◌∙◌}
 use native.Mathlib.Omega.{arith}
 use lib.ListN.{length}
 use contract.Lifetimes.{Lfts}
+use Rattle.std.specs.Prelude.{Ok}
+use Rattle.promises.proofs.Outcomes.{Decoded}
 use Rattle.record.specs.Store.{capacity}
 use Rattle.rfc6733.specs.Decoder.{message_of, decoded}
 use Rattle.rfc6733.specs.Writer.{most24}
@@ -14,16 +16,14 @@ use Rattle.rfc6733.proofs.Demand3.{Reaches, headers_tried, best_sawp, best_rfc, 
 use Rattle.attribute.specs.declared.Reading.TheVariants.{Sawp, Rfc}
 use Rattle.attribute.specs.Attributes.{dictionary}
 use Rattle.diameter.specs.declared.Message.{Message}
-use Rattle.diameter.specs.declared.Decoded.{Decoded}
-use Rattle.diameter.specs.declared.Decoded.TheVariants.{Accepted}
-use Rattle.diameter.specs.Answers.{answer_of, message_as}
+use Rattle.diameter.specs.Answers.{message_as}
 use Rattle.promises.proofs.OneOutcome.Calls.{Slice, MutSlice}
 use Rattle.promises.proofs.Ways.{Way, reading, edition, dictionary_of, Known, Decode, decodes, accepts}
 use Rattle.promises.proofs.Acceptance.{accepted_as}
 
 pub tried_of_the_decoder : (way : Way) (κs : Lfts 2) (limit : ℕ) (input : Slice) (store : MutSlice) (m : Message) (store' : MutSlice)
-    → Decode way κs limit input store (Accepted m) store' → 6 * m.tried ≤ m.length - 20
-unfolding answer_of message_as
+    → Decode way κs limit input store (Ok m) store' → 6 * m.tried ≤ m.length - 20
+unfolding message_as
 tried_of_the_decoder way κs limit input store m store' p =
     headers_tried _ _ _ _ (message_as m) (sym (accepts way κs limit input store m store' p).answer_is)
 
@@ -38,7 +38,7 @@ reaches (edition n) = λ limit room k low high fits short. best_edition limit ro
 -- r is an acceptance that reaches the bound with 20 + 12k bytes
 pub record AtTheBound (k : ℕ) (r : Decoded) : Type 0 where
   pub message : Message
-  pub is_accepted : r ≡ Accepted message
+  pub is_accepted : r ≡ Ok message
   pub length_is : message.length ≡ 20 + 12 * k
   pub tried_is : 6 * message.tried ≡ message.length - 20
 

@@ -5,7 +5,9 @@
 use Prim.Native.Nat.{ℕ, ◌-◌, ◌*◌, ◌≤◌, ◌<◌}
 use mathlib.Core.Path.{◌≡◌, refl, sym, ap, ◌∙◌}
 use mathlib.Core.Bool.{true}
-use mathlib.Core.Option.{Option, none, some}
+use Rattle.std.specs.Prelude.{Ok, Err}
+use Rattle.promises.proofs.Outcomes.{Decoded, Found}
+use Rattle.std.specs.Prelude.{Option, None, Some}
 use mathlib.Core.Logic.{inl, inr}
 use mathlib.Core.List.{List, [], ◌∷◌, ◌++◌, map, append_assoc}
 use native.Mathlib.Omega.{arith}
@@ -16,7 +18,8 @@ use borrow.Author.Tests.{le-leb}
 use contract.Lifetimes.{Lfts}
 use Rattle.octets.specs.Octets.{Bytes}
 use Rattle.octets.specs.Run.{tree}
-use Rattle.refusal.specs.Answer.{Refusal, accepted}
+use Rattle.refusal.proofs.AnswerOf.{answer_of_injective}
+use Rattle.refusal.specs.Answer.{answer_of, Refusal, accepted}
 use Rattle.refusal.specs.declared.Refusal.TheVariants.{NotTiled}
 use Rattle.refusal.proofs.Tests.{decide}
 use Rattle.record.specs.Record.{Record, record_size, record_bytes, laid}
@@ -34,25 +37,15 @@ use Rattle.record.proofs.Outlines.{outline_bytes_lem}
 use Rattle.record.proofs.Tables.{laid_read}
 use Rattle.round_trip.proofs.RoundTrip.{records_fit}
 use Rattle.diameter.specs.declared.Message.{Message}
-use Rattle.diameter.specs.declared.Decoded.{Decoded}
-use Rattle.diameter.specs.declared.Decoded.TheVariants as decoder
-use Rattle.diameter.specs.Answers.{answer_of, message_as}
-use Rattle.diameter.proofs.AnswerOf.{answer_of_injective}
-use Rattle.steps.specs.declared.Found.{Found}
-use Rattle.steps.specs.declared.Found.TheVariants.{At, None, Refused}
-use Rattle.steps.specs.Steps as steps
-use Rattle.steps.proofs.AnswerOf.{outcome_back, outcome_is_back}
+use Rattle.diameter.specs.Answers.{message_as}
+use Rattle.diameter.proofs.AnswerOf as decoder
 use Rattle.promises.proofs.OneOutcome.Calls.{Slice, MutSlice, Find}
 use Rattle.promises.proofs.Ways.{Way, dictionary_of, Known, Decode, decodes, accepts, refuses, lawful}
 use Rattle.promises.proofs.RoundTrip.{left}
 
 -- what stands first in a table
-abbrev pub shown : Option Outline → Found
-shown (some o) = At o
-shown none = None
-
 abbrev pub first_in : ℕ → List Record → Found
-first_in code table = shown (first_with code (map outline_of (of_depth 1 table)))
+first_in code table = Ok (first_with code (map outline_of (of_depth 1 table)))
 
 -- ---- the writer's view of a record has the same outline
 
@@ -62,16 +55,12 @@ bare_outlines d [] = refl
 bare_outlines d (r ∷ rs) =
     elim (decide (eqb r.depth d)) [ inl e ↦ rw (e, bare_outlines d rs) | inr e ↦ rw (e, bare_outlines d rs) ]
 
-shown_back : (x : Option Outline) → outcome_back (accepted x) ≡ shown x
-shown_back none = refl
-shown_back (some o) = refl
-
 -- a decoder accepted m, whose records stand at the front of store'; `find` answered r of the same bytes. `Bytes` is asked as in RoundTrip
 pub found_in_the_table : (way : Way) (κs : Lfts 2) (limit : ℕ) (input : Slice) (store : MutSlice) (m : Message) (store' : MutSlice)
     (λs : Lfts 1) (code : ℕ) (r : Found)
-    → Decode way κs limit input store (decoder.Accepted m) store' → Find λs input code r → Bytes input.now
+    → Decode way κs limit input store (Ok m) store' → Find λs input code r → Bytes input.now
     → r ≡ first_in code (table_of (take (m.records * record_size) store'.now))
-unfolding answer_of stored
+unfolding stored
 found_in_the_table way κs limit input store m store' λs code r p q bytes =
     let D = dictionary_of way in
     let s = input.now in
@@ -80,8 +69,8 @@ found_in_the_table way κs limit input store m store' λs code r p q bytes =
     let l = left D _ _ s m store'.now _ e says.store_is in
     let fits = records_fit D (lawful way) _ _ s (message_as m) bytes e in
     let found = first_with code (map outline_of (of_depth 1 (message_records D s))) in
-    sym (outcome_is_back r) ∙ ap outcome_back (q ∙ sought_accepted code s D _ _ (message_as m) e) ∙ shown_back found
-    ∙ rw (l.records_are, laid_read (message_records D s) fits, bare_outlines 1 (message_records D s))
+    answer_of_injective r (Ok found) (q ∙ sought_accepted code s D _ _ (message_as m) e)
+    ∙ ap (λ (x : Option Outline). Ok x) (rw (l.records_are, laid_read (message_records D s) fits, bare_outlines 1 (message_records D s)))
 
 -- ---- the same in bytes
 
@@ -112,16 +101,15 @@ record_there before behind it rest =
       take-append-le 4 (drop 19 (record_bytes it)) more (omega (arith, length-drop 19 (record_bytes it))),
     )
 
-found_outline : (o : Outline) (x : Option Outline) → steps.answer_of (At o) ≡ accepted x → x ≡ some o
-unfolding steps.answer_of
+found_outline : (o : Outline) (x : Option Outline) → accepted (Some o) ≡ accepted x → x ≡ Some o
 found_outline o x e = cc
 
 -- what was found stands in the store
 pub found_bytes_in_the_store : (way : Way) (κs : Lfts 2) (limit : ℕ) (input : Slice) (store : MutSlice) (m : Message) (store' : MutSlice)
     (λs : Lfts 1) (code : ℕ) (o : Outline)
-    → Decode way κs limit input store (decoder.Accepted m) store' → Find λs input code (At o)
+    → Decode way κs limit input store (Ok m) store' → Find λs input code (Ok (Some o))
     → InTheStore code (message_records (dictionary_of way) input.now) m.records store'.now o
-unfolding answer_of stored
+unfolding stored
 found_bytes_in_the_store way κs limit input store m store' λs code o p q =
     let D = dictionary_of way in
     let s = input.now in
@@ -151,33 +139,32 @@ found_bytes_in_the_store way κs limit input store m store' λs code o p q =
 
 -- what stands before the failing place
 abbrev pub shown_failing : Option Outline → Found
-shown_failing (some o) = At o
-shown_failing none = Refused NotTiled
+shown_failing (Some o) = Ok (Some o)
+shown_failing None = Err NotTiled
 
-failing_back : (x : Option Outline) → outcome_back (before_failing x) ≡ shown_failing x
-failing_back none = refl
-failing_back (some o) = refl
+failing_shown : (x : Option Outline) → before_failing x ≡ answer_of (shown_failing x)
+failing_shown None = refl
+failing_shown (Some o) = refl
 
 -- a decoder refused the bytes since they do not tile; `find` answered r
 pub found_before_the_failing_place : (way : Way) (κs : Lfts 2) (limit : ℕ) (input : Slice) (store store' : MutSlice) (λs : Lfts 1) (code : ℕ) (r : Found)
-    → Decode way κs limit input store (decoder.Refused NotTiled) store' → Find λs input code r
+    → Decode way κs limit input store (Err NotTiled) store' → Find λs input code r
     → r ≡ shown_failing (first_with code (outlines header_size (tree unentered (message_body input.now))))
-unfolding answer_of
 found_before_the_failing_place way κs limit input store store' λs code r p q =
     let s = input.now in
     let says = refuses way κs limit input store NotTiled store' (λ n. refl) p in
     let found = first_with code (outlines header_size (tree unentered (message_body s))) in
-    sym (outcome_is_back r) ∙ ap outcome_back (q ∙ sought_failing code s (dictionary_of way) limit _ (sym says.answer_is)) ∙ failing_back found
+    answer_of_injective r (shown_failing found) (q ∙ sought_failing code s (dictionary_of way) limit _ (sym says.answer_is) ∙ failing_shown found)
 
 -- `find` refused the bytes, and a decoder was asked with a limit that is allowed
 pub refused_by_both : (way : Way) (κs : Lfts 2) (limit : ℕ) (input : Slice) (store : MutSlice) (r : Decoded) (store' : MutSlice)
     (λs : Lfts 1) (code : ℕ) (why : Refusal)
-    → Known way → Decode way κs limit input store r store' → Find λs input code (Refused why) → 1 ≤ limit → limit ≤ 64
-    → r ≡ decoder.Refused why
-unfolding answer_of steps.answer_of allowed
+    → Known way → Decode way κs limit input store r store' → Find λs input code (Err why) → 1 ≤ limit → limit ≤ 64
+    → r ≡ Err why
+unfolding allowed
 refused_by_both way κs limit input store r store' λs code why known p q low high =
     let says = decodes way κs limit input store r store' known p in
-    answer_of_injective r (decoder.Refused why)
+    decoder.answer_of_injective r (Err why)
     (says.answer_is ∙ sought_refused code input.now why (sym q) (dictionary_of way) limit _ (within low high))
   where
     within : 1 ≤ limit → limit ≤ 64 → allowed limit ≡ true

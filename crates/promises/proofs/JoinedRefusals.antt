@@ -8,6 +8,8 @@ use mathlib.Core.Bool.{false}
 use mathlib.Core.Logic.{inl, inr}
 use mathlib.Core.List.{◌++◌}
 use native.Mathlib.Omega.{arith}
+use Rattle.std.specs.Prelude.{Ok, Err}
+use Rattle.promises.proofs.Outcomes.{Decoded}
 use Rattle.octets.specs.Run.{tree, deepest}
 use Rattle.refusal.specs.Answer.{Refusal, refused}
 use Rattle.refusal.specs.declared.Refusal.TheVariants.{TooDeep, NoRecords}
@@ -20,9 +22,6 @@ use Rattle.rfc6733.specs.Records.{avps}
 use Rattle.rfc6733.proofs.Editions.{refused_by}
 use Rattle.rfc6733.proofs.JoinedMessages.{Tiled, when_no_room, when_too_deep, is_too_deep, has_no_room}
 use Rattle.diameter.specs.declared.Message.{Message}
-use Rattle.diameter.specs.declared.Decoded.{Decoded}
-use Rattle.diameter.specs.declared.Decoded.TheVariants.{Accepted, Refused}
-use Rattle.diameter.specs.Answers.{answer_of}
 use Rattle.diameter.proofs.AnswerOf.{answer_of_injective}
 use Rattle.promises.proofs.Ways.{Way, reading, edition, dictionary_of, Known, Call, decodes, refuses}
 use Rattle.promises.proofs.Tables.{told}
@@ -30,20 +29,19 @@ use Rattle.promises.proofs.Joining.{AsksBoth}
 
 -- a message that tiles is accepted, or refused for its depth or for want of room
 pub data Tiles : Decoded → Type 0 where
-  accepts : (m : Message) → Tiles (Accepted m)
-  too_deep : Tiles (Refused TooDeep)
-  no_records : (n : ℕ) → Tiles (Refused (NoRecords n))
+  accepts : (m : Message) → Tiles (Ok m)
+  too_deep : Tiles (Err TooDeep)
+  no_records : (n : ℕ) → Tiles (Err (NoRecords n))
 
 -- one of two is too deep, and the other tiles
 pub data OneTooDeep : Decoded → Decoded → Type 0 where
-  first_is : (r : Decoded) → Tiles r → OneTooDeep (Refused TooDeep) r
-  second_is : (r : Decoded) → Tiles r → OneTooDeep r (Refused TooDeep)
+  first_is : (r : Decoded) → Tiles r → OneTooDeep (Err TooDeep) r
+  second_is : (r : Decoded) → Tiles r → OneTooDeep r (Err TooDeep)
 
 -- ---- the proofs
 
 -- where an edition was asked, it is one
-known_too_deep : (way : Way) (limit : ℕ) → Call way limit (Refused TooDeep) → Known way
-unfolding answer_of
+known_too_deep : (way : Way) (limit : ℕ) → Call way limit (Err TooDeep) → Known way
 known_too_deep (reading r) limit c = tt
 known_too_deep (edition n) limit c = refused_by n limit _ c.input.now TooDeep refl (sym c.answered.0)
 
@@ -53,13 +51,12 @@ module _ (way : Way) (limit : ℕ) where
 
   -- a refusal that is neither the limit's nor the edition's
   refused_so : (why : Refusal) → ((n : ℕ) → among why (limit_refusals limit ++ edition_refusals n) ≡ false)
-      → (c : Call way limit (Refused why))
+      → (c : Call way limit (Err why))
       → decoded D limit (room c.store.now) c.input.now ≡ refused why
-  unfolding answer_of
   refused_so why later c =
       sym (refuses way c.lifetimes limit c.input c.store why c.store' later c.answered).answer_is
 
-  deep_so : (c : Call way limit (Refused TooDeep))
+  deep_so : (c : Call way limit (Err TooDeep))
       → Tiled D limit c.input.now × (limit < deepest (tree (avps D) (message_body c.input.now)))
   deep_so c = when_too_deep D limit _ c.input.now (refused_so TooDeep (λ n. refl) c)
 
@@ -70,17 +67,16 @@ module _ (way : Way) (limit : ℕ) where
 
   -- what the definition refuses, the call does
   refuses_so : (r : Decoded) (c : Call way limit r) (why : Refusal) → Known way
-      → decoded D limit (room c.store.now) c.input.now ≡ refused why → r ≡ Refused why
-  unfolding answer_of
+      → decoded D limit (room c.store.now) c.input.now ≡ refused why → r ≡ Err why
   refuses_so r c why known e =
       let says = decodes way c.lifetimes limit c.input c.store r c.store' known c.answered in
-      answer_of_injective r (Refused why) (says.answer_is ∙ e)
+      answer_of_injective r (Err why) (says.answer_is ∙ e)
 
 -- ---- what is promised
 
 pub too_deep_joined : (way : Way) (limit : ℕ) (r₁ r₂ r : Decoded)
     (first : Call way limit r₁) (second : Call way limit r₂) (both : Call way limit r)
-    → AsksBoth first second both → OneTooDeep r₁ r₂ → r ≡ Refused TooDeep
+    → AsksBoth first second both → OneTooDeep r₁ r₂ → r ≡ Err TooDeep
 too_deep_joined way limit r₁ r₂ r first second both asks (first_is x t) =
     let a = deep_so way limit first in
     refuses_so way limit r both TooDeep (known_too_deep way limit first)
@@ -91,9 +87,9 @@ too_deep_joined way limit r₁ r₂ r first second both asks (second_is x t) =
     (is_too_deep (dictionary_of way) limit _ _ _ (tiled_so way limit x first t) b.0 asks _ (inr b.1))
 
 pub no_room_joined : (way : Way) (limit : ℕ) (m n : Message) (r : Decoded)
-    (first : Call way limit (Accepted m)) (second : Call way limit (Accepted n)) (both : Call way limit r)
+    (first : Call way limit (Ok m)) (second : Call way limit (Ok n)) (both : Call way limit r)
     → AsksBoth first second both → room both.store.now < m.records + n.records
-    → r ≡ Refused (NoRecords (m.records + n.records))
+    → r ≡ Err (NoRecords (m.records + n.records))
 no_room_joined way limit m n r first second both asks few =
     let a = told way limit m first in
     let b = told way limit n second in

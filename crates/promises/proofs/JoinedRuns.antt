@@ -8,6 +8,8 @@ use mathlib.Core.List.{List, ◌++◌, map}
 use native.Mathlib.Omega.{arith}
 use lib.ListN.{length, replicate}
 use contract.Lifetimes.{Lfts}
+use Rattle.std.specs.Prelude.{Ok}
+use Rattle.promises.proofs.Outcomes.{Filled}
 use Rattle.octets.specs.Run.{tree, deepest}
 use Rattle.refusal.specs.Answer.{accepted}
 use Rattle.refusal.proofs.Answers.{passed, accepts, passes_append}
@@ -23,31 +25,29 @@ use Rattle.rfc6733.specs.Records.{avps, tiling}
 use Rattle.rfc6733.proofs.Tiling.{tiles_any}
 use Rattle.rfc6733.proofs.Joining.{Joins, joining}
 use Rattle.attribute.specs.declared.Dictionary as attribute
-use Rattle.attribute.specs.ByTable.{dictionary_by}
+use Rattle.attribute.specs.ByTable.{dictionary_of}
 use Rattle.fits.specs.Fitting.{refusals}
 use Rattle.avps.specs.declared.Counts.{Counts}
-use Rattle.avps.specs.declared.Filled.{Filled}
-use Rattle.avps.specs.declared.Filled.TheVariants as filled
 use Rattle.avps.specs.Answers.{run_answer, answer_of, counts_as}
 use Rattle.avps.proofs.AnswerOf.{answer_of_injective}
 use Rattle.promises.proofs.OneOutcome.Calls.{Slice, MutSlice, ParseAvps}
 
 -- a call that answered r, of a run that stands at a place
-pub record RunCall (d : attribute.Dictionary) (kinds : Slice) (limit place : ℕ) (r : Filled) : Type 0 where
+pub record RunCall (d : attribute.Dictionary) (limit place : ℕ) (r : Filled) : Type 0 where
   pub lifetimes : Lfts 3
   pub input : Slice
   pub store : MutSlice
   pub store' : MutSlice
-  pub answered : ParseAvps lifetimes d kinds limit input place store r store'
+  pub answered : ParseAvps lifetimes d limit input place store r store'
 
 -- both are accepted as one run; the first's records and then the second's, shifted, are in the store, before zeros
-pub record RunsJoined {d : attribute.Dictionary} {kinds : Slice} {limit place : ℕ} {b c : Counts} {r : Filled}
-    (first : RunCall d kinds limit place (filled.Accepted b)) (second : RunCall d kinds limit place (filled.Accepted c))
-    (both : RunCall d kinds limit place r) : Type 0 where
+pub record RunsJoined {d : attribute.Dictionary} {limit place : ℕ} {b c : Counts} {r : Filled}
+    (first : RunCall d limit place (Ok b)) (second : RunCall d limit place (Ok c))
+    (both : RunCall d limit place r) : Type 0 where
   pub counts : Counts
-  pub is_accepted : r ≡ filled.Accepted counts
+  pub is_accepted : r ≡ Ok counts
   pub counts_are : counts_as counts ≡ merged_counts (counts_as b) (counts_as c)
-  pub store_is : let D = dictionary_by d kinds.now in
+  pub store_is : let D = dictionary_of d in
       let further = map (shifted b.length b.records) (run_records D place second.input.now) in
       let rs = run_records D place first.input.now ++ further in
       both.store'.now ≡ laid rs ++ replicate (length both.store.now - length (laid rs)) 0
@@ -112,15 +112,15 @@ module _ (D : Dictionary) (limit place : ℕ) (s x : List ℕ) (b c : of_records
 
 -- ---- what is promised
 
-pub joined_runs : (d : attribute.Dictionary) (kinds : Slice) (limit place : ℕ) (b c : Counts) (r : Filled)
-    (first : RunCall d kinds limit place (filled.Accepted b)) (second : RunCall d kinds limit place (filled.Accepted c))
-    (both : RunCall d kinds limit place r)
+pub joined_runs : (d : attribute.Dictionary) (limit place : ℕ) (b c : Counts) (r : Filled)
+    (first : RunCall d limit place (Ok b)) (second : RunCall d limit place (Ok c))
+    (both : RunCall d limit place r)
     → both.input.now ≡ first.input.now ++ second.input.now
     → place + length both.input.now ≤ last_place → b.records + c.records ≤ room both.store.now
     → RunsJoined first second both
-unfolding answer_of counts_as stored
-joined_runs d kinds limit place b c r first second both is there fits =
-    let D = dictionary_by d kinds.now in
+unfolding counts_as stored
+joined_runs d limit place b c r first second both is there fits =
+    let D = dictionary_of d in
     let x = taken D limit _ place first.input.now (counts_as b) (sym first.answered.0) in
     let y = taken D limit _ place second.input.now (counts_as c) (sym second.answered.0) in
     let total : Counts =
@@ -131,8 +131,8 @@ joined_runs d kinds limit place b c r first second both is there fits =
       length = b.length + c.length;
     } in
     let answered = both_taken D limit place _ _ _ _ x y (room both.store.now) (rw is at there) fits in
-    let is_total : r ≡ filled.Accepted total =
-    answer_of_injective r (filled.Accepted total) (both.answered.0 ∙ rw is answered) in
+    let is_total : r ≡ Ok total =
+    answer_of_injective r (Ok total) (both.answered.0 ∙ rw is answered) in
     let records_are = ap (run_records D place) is ∙ records_merged D limit place _ _ _ _ x y in
     record {
       counts = total;

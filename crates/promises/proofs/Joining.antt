@@ -9,6 +9,8 @@ use mathlib.Core.List.{List, ◌++◌, map}
 use native.Mathlib.Omega.{arith}
 use lib.ListN.{length, take}
 use contract.Lifetimes.{Lfts}
+use Rattle.std.specs.Prelude.{Ok, Err}
+use Rattle.promises.proofs.Outcomes.{Decoded, Shifted}
 use Rattle.refusal.specs.Answer.{accepted}
 use Rattle.refusal.proofs.Answers.{not_accepted}
 use Rattle.flags.specs.Flags.{join}
@@ -24,16 +26,12 @@ use Rattle.rfc6733.specs.Decoder as definition
 use Rattle.rfc6733.specs.Decoder.{message_records, message_of, run_counts}
 use Rattle.rfc6733.specs.Dictionary.{Dictionary}
 use Rattle.rfc6733.proofs.JoinedMessages.{MergedMessage, messages_merged, is_accepted}
-use Rattle.rules.specs.declared.shifting.Shifted.{Shifted}
-use Rattle.rules.specs.declared.shifting.Shifted.TheVariants as shifting
-use Rattle.rules.specs.Shifting as of_shift
+use Rattle.refusal.specs.Answer as of_refusal
 use Rattle.rules.specs.Shifting.{table_after}
-use Rattle.rules.proofs.AnswerOf as of_rules
+use Rattle.refusal.proofs.AnswerOf.{answer_of_injective}
 use Rattle.rules.proofs.Laid.{answer_laid, rows_laid}
 use Rattle.round_trip.proofs.Whole.{whole}
 use Rattle.diameter.specs.declared.Message.{Message}
-use Rattle.diameter.specs.declared.Decoded.{Decoded}
-use Rattle.diameter.specs.declared.Decoded.TheVariants.{Accepted, Refused}
 use Rattle.diameter.specs.Answers.{answer_of, message_as}
 use Rattle.promises.proofs.OneOutcome.Calls.{MutSlice, Shift}
 use Rattle.promises.proofs.Ways.{Way, dictionary_of, Call, Decodes, decodes, lawful, address_small}
@@ -41,7 +39,7 @@ use Rattle.promises.proofs.RoundTrip.{left}
 use Rattle.promises.proofs.Tables.{records_read, told, records_left_lem}
 
 -- the whole records that a call left
-abbrev pub records_left : {way : Way} {limit : ℕ} {m : Message} → Call way limit (Accepted m) → List Record
+abbrev pub records_left : {way : Way} {limit : ℕ} {m : Message} → Call way limit (Ok m) → List Record
 records_left {way} {limit} {m} c = whole_records m.records c.store'.now
 
 -- the error flags of its message's AVPs, and of the header
@@ -58,10 +56,10 @@ AsksBoth first second both = HoldsBoth first.input.now second.input.now both.inp
 
 -- both are accepted as one message
 pub record JoinedIn {way : Way} {limit : ℕ} {m n : Message} {r : Decoded}
-    (first : Call way limit (Accepted m)) (second : Call way limit (Accepted n)) (both : Call way limit r)
+    (first : Call way limit (Ok m)) (second : Call way limit (Ok n)) (both : Call way limit r)
     : Type 0 where
   pub message : Message
-  pub is_accepted : r ≡ Accepted message
+  pub is_accepted : r ≡ Ok message
   pub records_are : whole_records message.records both.store'.now
       ≡ records_left first ++ map (shifted (m.length - header_size) m.records) (records_left second)
   pub records_counted : message.records ≡ m.records + n.records
@@ -74,9 +72,9 @@ pub record JoinedIn {way : Way} {limit : ℕ} {m n : Message} {r : Decoded}
 
 -- the second's table, moved, stands behind the first's as in the store of both, byte for byte
 pub record MovedBehind {way : Way} {limit : ℕ} {m n : Message} {r : Decoded}
-    (first : Call way limit (Accepted m)) (second : Call way limit (Accepted n)) (both : Call way limit r)
+    (first : Call way limit (Ok m)) (second : Call way limit (Ok n)) (both : Call way limit r)
     (moved : Shifted) (table' : List ℕ) : Type 0 where
-  pub all_moved : moved ≡ shifting.Accepted n.records
+  pub all_moved : moved ≡ Ok n.records
   pub store_is : take ((m.records + n.records) * record_size) both.store'.now
       ≡ take (m.records * record_size) first.store'.now ++ table'
 
@@ -85,16 +83,15 @@ pub record MovedBehind {way : Way} {limit : ℕ} {m n : Message} {r : Decoded}
 -- an answer that accepts holds a message
 record Holding (r : Decoded) (x : definition.Message) : Type 0 where
   message : Message
-  is_accepted : r ≡ Accepted message
+  is_accepted : r ≡ Ok message
   same : message_as message ≡ x
 
 holding : (r : Decoded) (x : definition.Message) → answer_of r ≡ accepted x → Holding r x
-unfolding answer_of
-holding (Accepted m) x e = record { message = m; is_accepted = refl; same = cc }
-holding (Refused why) x e = absurd (not_accepted e)
+holding (Ok m) x e = record { message = m; is_accepted = refl; same = cc }
+holding (Err why) x e = absurd (not_accepted e)
 
 module _ {way : Way} {limit : ℕ} {m n : Message} {r : Decoded}
-    (first : Call way limit (Accepted m)) (second : Call way limit (Accepted n)) (both : Call way limit r)
+    (first : Call way limit (Ok m)) (second : Call way limit (Ok n)) (both : Call way limit r)
     (asks : AsksBoth first second both) (fits : m.records + n.records ≤ room both.store.now) where
   abbrev D : Dictionary
   D = dictionary_of way
@@ -115,7 +112,7 @@ module _ {way : Way} {limit : ℕ} {m n : Message} {r : Decoded}
       ∙ is_accepted D limit _ _ _ a.tiled b.tiled asks _ a.shallow b.shallow
       (omega (arith, a.left_is.records_counted, b.left_is.records_counted)))
 
-  accepted_says : Decodes D limit both.input.now both.store.now (Accepted held.message)
+  accepted_says : Decodes D limit both.input.now both.store.now (Ok held.message)
       both.store'.now
   accepted_says =
       subst (λ (x : Decoded). Decodes D limit both.input.now both.store.now x both.store'.now)
@@ -175,8 +172,7 @@ module _ {way : Way} {limit : ℕ} {m n : Message} {r : Decoded}
     laid_out = is ∙ (told way limit n second).left_is.records_are
 
     -- the joined message's records fit their bytes, and these are the last of them
-    all_moved : of_shift.answer_of moved ≡ accepted (length ts)
-    unfolding answer_of
+    all_moved : of_refusal.answer_of moved ≡ accepted (length ts)
     all_moved =
         let w = whole D (lawful way) (address_small way) _ _ both.input.now (message_as held.message)
         both.bytes (sym accepted_says.answer_is) in
@@ -188,13 +184,13 @@ module _ {way : Way} {limit : ℕ} {m n : Message} {r : Decoded}
     rows_are = call.1 ∙ rw (all_moved, laid_out) (rows_laid _ _ ts (told way limit n second).whole_is)
 
     moved_behind : MovedBehind first second both moved table'.now
-    unfolding answer_of of_shift.answer_of stored
+    unfolding stored
     moved_behind =
         let b = (told way limit n second).left_is in
         let l = left D _ _ both.input.now held.message both.store'.now _ (sym accepted_says.answer_is)
         accepted_says.store_is in
         record {
-          all_moved = of_rules.answer_of_injective moved (shifting.Accepted n.records)
+          all_moved = answer_of_injective moved (Ok n.records)
               (all_moved ∙ ap accepted b.records_counted);
           store_is =
               rw (← records_total) l.records_are
@@ -206,7 +202,7 @@ module _ {way : Way} {limit : ℕ} {m n : Message} {r : Decoded}
 -- ---- what is promised
 
 pub joined_messages : (way : Way) (limit : ℕ) (m n : Message) (r : Decoded)
-    (first : Call way limit (Accepted m)) (second : Call way limit (Accepted n)) (both : Call way limit r)
+    (first : Call way limit (Ok m)) (second : Call way limit (Ok n)) (both : Call way limit r)
     → AsksBoth first second both → m.records + n.records ≤ room both.store.now
     → JoinedIn first second both
 joined_messages way limit m n r first second both asks fits = joined_in first second both asks fits
@@ -214,7 +210,7 @@ joined_messages way limit m n r first second both asks fits = joined_in first se
 -- `shift` is given the second's records, and moves them by the first's length without its header and by its record
 -- count
 pub shifted_behind : (way : Way) (limit : ℕ) (m n : Message) (r : Decoded)
-    (first : Call way limit (Accepted m)) (second : Call way limit (Accepted n)) (both : Call way limit r)
+    (first : Call way limit (Ok m)) (second : Call way limit (Ok n)) (both : Call way limit r)
     → AsksBoth first second both → m.records + n.records ≤ room both.store.now
     → (κs : Lfts 1) (table : MutSlice) (moved : Shifted) (table' : MutSlice)
     → Shift κs table (m.length - header_size) m.records moved table'

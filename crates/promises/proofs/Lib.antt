@@ -1,4 +1,5 @@
 pub mod OneOutcome
+pub mod Outcomes
 mod Acceptance
 pub mod Ways
 pub mod Refusals

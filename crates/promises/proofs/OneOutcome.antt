@@ -15,8 +15,10 @@ use Rattle.record.specs.Record.{Record}
 use Rattle.reader.specs.declared.Reader.{Reader}
 use Rattle.writer.specs.declared.Fields.{Fields}
 use Rattle.radius_writer.specs.declared.Fields as packet
-use Rattle.promises.proofs.OneOutcome.Calls.{Slice, MutSlice, PutWord, PutLong, Copy, PutPadding, PutHeader, PutHead, RecordPut, PutFound, PutPlaceAndParent, Clear, ParseAvps, Parse, ParseAvp, ParseBy, ParseAvpBy, Dump, Write, Shift, TandrekilyMessage, TandrekilyHeader, TandrekilyAvp, TandrekilyMessageBy, TandrekilyAvpBy, TandrekilyFind, TandrekilyNext, TandrekilyWrite, TandrekilyShift, TandrekilyCompare, ParseAttributes, ParsePacket, WritePacket, TandrekilyRadius, TandrekilyRadiusWrite}
+use Rattle.promises.proofs.OneOutcome.Calls.{Slice, MutSlice, PutWord, PutLong, PutByteAndThree, Copy, PutPadding, PutHeader, PutHead, RecordPut, PutFound, PutPlaceAndParent, Clear, ParseAvps, Parse, ParseAvp, ParseBy, ParseAvpBy, Dump, Write, Shift, TandrekilyMessage, TandrekilyHeader, TandrekilyAvp, TandrekilyMessageBy, TandrekilyAvpBy, TandrekilyFind, TandrekilyNext, TandrekilyWrite, TandrekilyShift, TandrekilyCompare, ParseAttributes, ParsePacket, WritePacket, TandrekilyRadius, TandrekilyRadiusWrite}
 use Rattle.promises.proofs.OneOutcome.ByHand.{ReaderNew, ReaderNext, ReaderFind}
+use mir.Syntax.{w64}
+use mir.Val.{Fits}
 use Rattle.octets.proofs.be_u16.Reads as be_u16
 use Rattle.octets.proofs.be_u24.Reads as be_u24
 use Rattle.octets.proofs.be_u32.Reads as be_u32
@@ -26,6 +28,7 @@ use Rattle.octets.proofs.to_be_u24.Reads as to_be_u24
 use Rattle.octets.proofs.to_be_u32.Reads as to_be_u32
 use Rattle.octets.proofs.to_be_u64.Reads as to_be_u64
 use Rattle.octets.proofs.at_hand.length.Reads as length
+use Rattle.word.proofs.front.Reads as word_front
 use Rattle.word.proofs.be_u32.Reads as word_be_u32
 use Rattle.word.proofs.be_u64.Reads as word_be_u64
 use Rattle.rfc3629.proofs.is_utf8_1.Reads as is_utf8_1
@@ -45,13 +48,12 @@ use Rattle.signed.proofs.unix_seconds.Reads as unix_seconds
 use Rattle.signed.proofs.integer32.Reads as integer32
 use Rattle.signed.proofs.integer64.Reads as integer64
 use Rattle.signed.proofs.magnitude.Reads as magnitude
-use Rattle.unit_value.proofs.Ordering.reverse.Reads as reverse
 use Rattle.unit_value.proofs.compare.Reads as compare
 use Rattle.attribute.proofs.Attribute.new.Reads as attribute_new
 use Rattle.attribute.proofs.Attribute.read.Reads as attribute_read
 use Rattle.attribute.proofs.Reading.dictionary.Reads as reading_dictionary
 use Rattle.attribute.proofs.kind_table.Reads as kind_table
-use Rattle.attribute.proofs.kind.Reads as kind
+use Rattle.attribute.proofs.Dictionary.kind.Reads as kind
 use Rattle.editions.proofs.Edition.by_number.Reads as by_number
 use Rattle.editions.proofs.no_edition.Reads as no_edition
 use Rattle.editions.proofs.Edition.kind_table.Reads as edition_kind_table
@@ -113,18 +115,12 @@ use Rattle.tandrekily.proofs.tandrekily_utf8.Reads as tandrekily_utf8
 use Rattle.tandrekily.proofs.tandrekily_unix_seconds.Reads as tandrekily_unix_seconds
 use Rattle.tandrekily.proofs.tandrekily_integer32.Reads as tandrekily_integer32
 use Rattle.tandrekily.proofs.tandrekily_integer64.Reads as tandrekily_integer64
+use Rattle.refusal.proofs.AnswerOf.{answer_of_injective}
 use Rattle.header.proofs.AnswerOf as header_answers
-use Rattle.front.proofs.AnswerOf as front_answers
-use Rattle.steps.proofs.AnswerOf as steps_answers
-use Rattle.unit_value.proofs.AnswerOf as unit_value_answers
 use Rattle.address.proofs.OneFound.{one_found}
 use Rattle.value.proofs.ReadAs.{one_value}
-use Rattle.count.proofs.AnswerOf as count_answers
 use Rattle.avps.proofs.AnswerOf as avps_answers
 use Rattle.diameter.proofs.AnswerOf as diameter_answers
-use Rattle.record.proofs.AnswerOf as writer_answers
-use Rattle.rules.proofs.AnswerOf as shift_answers
-use Rattle.radius_attributes.proofs.AnswerOf as attributes_answers
 use Rattle.writable.proofs.OneAnswer.{one_answer}
 use Rattle.radius.proofs.AnswerOf as packet_answers
 use Rattle.radius_value.proofs.ValueAs.{value_as_injective}
@@ -174,6 +170,9 @@ length_one κs a r r' s p q = p ∙ sym q
 
 -- ---- word
 
+word_front_one : (N : ℕ) (size : Fits w64 N) → Single (word_front.Post N size)
+word_front_one N size κs a r r' s p q = p ∙ sym q
+
 word_be_u32_one : Single word_be_u32.Post
 word_be_u32_one κs a r r' s p q = p ∙ sym q
 
@@ -185,6 +184,10 @@ put_word_one κs out v after after' p q = p ∙ sym q
 
 put_long_one : (κs : Lfts 1) (out : MutSlice) (v : ℕ) (after after' : MutSlice) → PutLong κs out v after → PutLong κs out v after' → after.now ≡ after'.now
 put_long_one κs out v after after' p q = p ∙ sym q
+
+put_u8_u24_one : (κs : Lfts 1) (out : MutSlice) (high low : ℕ) (after after' : MutSlice) → PutByteAndThree κs out high low after
+    → PutByteAndThree κs out high low after' → after.now ≡ after'.now
+put_u8_u24_one κs out high low after after' p q = p ∙ sym q
 
 -- ---- rfc3629, ascii and utf8
 
@@ -247,11 +250,8 @@ magnitude_one κs a r r' s p q = p ∙ sym q
 
 -- ---- unit_value
 
-reverse_one : Single reverse.Post
-reverse_one κs a r r' s p q = p ∙ sym q
-
 compare_one : Single compare.Post
-compare_one κs a r r' s p q = unit_value_answers.answer_of_injective r r' (p ∙ sym q)
+compare_one κs a r r' s p q = answer_of_injective r r' (p ∙ sym q)
 
 -- ---- attribute
 
@@ -336,7 +336,7 @@ first_avp_one : Single first_avp.Post
 first_avp_one κs a r r' s p q = p ∙ sym q
 
 front_parse_one : Single front_parse.Post
-front_parse_one κs a r r' s p q = front_answers.answer_of_injective r r' (p ∙ sym q)
+front_parse_one κs a r r' s p q = answer_of_injective r r' (p ∙ sym q)
 
 pads_one : Single pads.Post
 pads_one κs a r r' s p q = p ∙ sym q
@@ -374,7 +374,7 @@ next_one : Single next.Post
 next_one κs a r r' s p q = p ∙ sym q
 
 find_one : Single find.Post
-find_one κs a r r' s p q = steps_answers.answer_of_injective r r' (p ∙ sym q)
+find_one κs a r r' s p q = answer_of_injective r r' (p ∙ sym q)
 
 -- ---- record
 
@@ -429,18 +429,18 @@ allowed_one : Single allowed.Post
 allowed_one κs a r r' s p q = p ∙ sym q
 
 count_run_one : Single count_run.Post
-count_run_one κs a r r' s p q = count_answers.answer_of_injective r r' (p ∙ sym q)
+count_run_one κs a r r' s p q = answer_of_injective r r' (p ∙ sym q)
 
 -- ---- fits
 
 count_fitting_one : Single count_fitting.Post
-count_fitting_one κs a r r' s p q = count_answers.answer_of_injective r r' (p ∙ sym q)
+count_fitting_one κs a r r' s p q = answer_of_injective r r' (p ∙ sym q)
 
 -- ---- avps
 
-parse_avps_one : (κs : Lfts 3) (d : Dictionary) (kinds : Slice) (limit : ℕ) (s : Slice) (place : ℕ) (store : MutSlice)
-    → Settled (ParseAvps κs d kinds limit s place store)
-parse_avps_one κs d kinds limit s place store r r' after after' p q =
+parse_avps_one : (κs : Lfts 3) (d : Dictionary) (limit : ℕ) (s : Slice) (place : ℕ) (store : MutSlice)
+    → Settled (ParseAvps κs d limit s place store)
+parse_avps_one κs d limit s place store r r' after after' p q =
     let e = avps_answers.answer_of_injective r r' (p.0 ∙ sym q.0) in
     let at_exit = p.1 in
     let at_exit' = q.1 in
@@ -491,7 +491,7 @@ check_table_one κs a r r' s p q = p ∙ sym q
 
 shift_one : (κs : Lfts 1) (table : MutSlice) (bytes records : ℕ) → Settled (Shift κs table bytes records)
 shift_one κs table bytes records r r' after after' p q =
-    let e = shift_answers.answer_of_injective r r' (p.0 ∙ sym q.0) in
+    let e = answer_of_injective r r' (p.0 ∙ sym q.0) in
     let at_exit = p.1 in
     let at_exit' = q.1 in
     (e, cc)
@@ -499,7 +499,7 @@ shift_one κs table bytes records r r' after after' p q =
 -- ---- writable, body, heads and writer
 
 writable_answer_one : Single writable_answer.Post
-writable_answer_one κs a r r' s p q = writer_answers.answer_of_injective r r' (one_answer _ _ _ _ _ _ p q)
+writable_answer_one κs a r r' s p q = answer_of_injective r r' (one_answer _ _ _ _ _ _ p q)
 
 copy_one : (κs : Lfts 2) (src : Slice) (dst : MutSlice) (after after' : MutSlice) → Copy κs src dst after → Copy κs src dst after' → after.now ≡ after'.now
 copy_one κs src dst after after' p q = p ∙ sym q
@@ -518,7 +518,7 @@ put_head_one κs r n out after after' p q = p ∙ sym q
 
 write_one : (κs : Lfts 3) (fields : Fields) (table pool : Slice) (out : MutSlice) → Settled (Write κs fields table pool out)
 write_one κs fields table pool out r r' after after' p q =
-    let e = writer_answers.answer_of_injective r r' (p.0 ∙ sym q.0) in
+    let e = answer_of_injective r r' (p.0 ∙ sym q.0) in
     let at_exit = p.1 in
     let at_exit' = q.1 in
     (e, cc)
@@ -541,7 +541,7 @@ attribute_value_read_one κs a r r' s p q = value_as_injective r r' (p ∙ sym q
 
 parse_attributes_one : (κs : Lfts 2) (s : Slice) (place : ℕ) (store : MutSlice) → Settled (ParseAttributes κs s place store)
 parse_attributes_one κs s place store r r' after after' p q =
-    let e = attributes_answers.answer_of_injective r r' (p.0 ∙ sym q.0) in
+    let e = answer_of_injective r r' (p.0 ∙ sym q.0) in
     let at_exit = p.1 in
     let at_exit' = q.1 in
     (e, cc)
@@ -555,7 +555,7 @@ parse_packet_one κs input store r r' after after' p q =
 
 write_packet_one : (κs : Lfts 3) (fields : packet.Fields) (table pool : Slice) (out : MutSlice) → Settled (WritePacket κs fields table pool out)
 write_packet_one κs fields table pool out r r' after after' p q =
-    let e = writer_answers.answer_of_injective r r' (p.0 ∙ sym q.0) in
+    let e = answer_of_injective r r' (p.0 ∙ sym q.0) in
     let at_exit = p.1 in
     let at_exit' = q.1 in
     (e, cc)

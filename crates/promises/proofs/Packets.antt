@@ -8,8 +8,10 @@ use native.Mathlib.Omega.{arith}
 use lib.ListN.{length, take, drop}
 use lib.Seq.{take_at}
 use contract.Lifetimes.{Lfts}
+use Rattle.std.specs.Prelude.{Ok, Err}
+use Rattle.promises.proofs.Outcomes.{DecodedPacket, Written}
 use Rattle.octets.specs.Octets.{Bytes, over}
-use Rattle.refusal.specs.Answer.{Answer, accepted}
+use Rattle.refusal.specs.Answer.{Answer, accepted, answer_of}
 use Rattle.refusal.proofs.Answers.{not_accepted}
 use Rattle.record.specs.Record.{record_size, laid}
 use Rattle.record.specs.Store.{room, stored, output}
@@ -29,21 +31,16 @@ use Rattle.rfc2865.proofs.ReadBack.{read_back}
 use Rattle.rfc2865.proofs.Packets.{Sized}
 use Rattle.rfc2865.proofs.Whole.{whole, every_tells}
 use Rattle.radius.specs.declared.Packet.{Packet}
-use Rattle.radius.specs.declared.Decoded.{Decoded}
-use Rattle.radius.specs.declared.Decoded.TheVariants as decoder
 use Rattle.radius.specs.declared.Parsed.{Parsed}
 use Rattle.radius.specs.Answers.{packet_as, answer_with}
 use Rattle.radius_writer.specs.declared.Fields.{Fields}
-use Rattle.record.specs.declared.written.Written.{Written}
-use Rattle.record.specs.declared.written.Written.TheVariants as writer
-use Rattle.record.specs.Written as writers
 use Rattle.radius_writer.specs.Answers.{header_as}
-use Rattle.record.proofs.AnswerOf.{answer_of_injective}
+use Rattle.refusal.proofs.AnswerOf.{answer_of_injective}
 use Rattle.promises.proofs.OneOutcome.Calls.{Slice, MutSlice, ParsePacket, WritePacket}
 
 -- a packet that was accepted, with its authenticator
 abbrev pub accepts : Packet → List ℕ → Parsed
-accepts p a = record { decoded = decoder.Accepted p; authenticator = a }
+accepts p a = record { decoded = Ok p; authenticator = a }
 
 abbrev headed : Packet → List ℕ → Header
 headed p a = record { code = p.code; identifier = p.identifier; authenticator = a }
@@ -61,7 +58,7 @@ pub record Left (n : ℕ) (s : List ℕ) (p : Packet) (a store : List ℕ) : Typ
 
 pub left : (κs : Lfts 2) (input : Slice) (store : MutSlice) (p : Packet) (a : List ℕ) (store' : MutSlice)
     → ParsePacket κs input store (accepts p a) store' → Left (room store.now) input.now p a store'.now
-unfolding answer_with packet_as packet_of stored
+unfolding packet_of stored
 left κs input store p a store' call =
     let e = sym call.0 in
     let is = (when_accepted (room store.now) input.now (packet_as a p) e).packet_is in
@@ -85,8 +82,8 @@ pub decoded_then_written : (κs : Lfts 2) (input : Slice) (store : MutSlice) (p 
     → table.now ≡ take (p.records * record_size) store'.now
     → pool.now ≡ input.now
     → p.length ≤ length out.now
-    → (r ≡ writer.Accepted p.length) × (out'.now ≡ over (take p.length input.now) out.now)
-unfolding writers.answer_of output
+    → (r ≡ Ok p.length) × (out'.now ≡ over (take p.length input.now) out.now)
+unfolding output
 decoded_then_written κs input store p a store' λs fields table pool out r out' read wrote bytes fields_are table_is pool-is fits =
     let s = input.now in
     let l = left κs input store p a store' read in
@@ -95,11 +92,11 @@ decoded_then_written κs input store p a store' λs fields table pool out r out'
     let rs = packet_records s in
     let front = take_at (laid rs) l.rest (p.records * record_size) (omega (arith, laid_length rs, l.counted)) in
     let t : table.now ≡ laid rs = table_is ∙ ap (take (p.records * record_size)) l.store_is ∙ front in
-    let ok : writers.answer_of r ≡ accepted p.length = wrote.0 ∙ rw (h, t, pool-is) (again.accepts ∙ ap accepted l.length_is) in
+    let ok : answer_of r ≡ accepted p.length = wrote.0 ∙ rw (h, t, pool-is) (again.accepts ∙ ap accepted l.length_is) in
     let same : table_bytes (header_as fields) table.now pool.now ≡ take p.length s =
     rw (h, t, pool-is) (again.same_bytes ∙ ap (λ (n : ℕ). take n s) l.length_is)
     in (
-      answer_of_injective r (writer.Accepted p.length) ok,
+      answer_of_injective r (Ok p.length) ok,
       wrote.1
           ∙ ap (λ (x : Answer ℕ). output x (table_bytes (header_as fields) table.now pool.now) out.now) ok
           ∙ ap (λ (x : List ℕ). over x out.now) same,
@@ -110,31 +107,30 @@ decoded_then_written κs input store p a store' λs fields table pool out r out'
 -- r accepts n bytes of the input, with a header and with the types, lengths and data of a table
 pub record ReadAs (input table pool : List ℕ) (h : Header) (n : ℕ) (r : Parsed) : Type 0 where
   pub packet : Packet
-  pub is_accepted : r.decoded ≡ decoder.Accepted packet
+  pub is_accepted : r.decoded ≡ Ok packet
   pub length_is : packet.length ≡ n
   pub header_is : headed packet r.authenticator ≡ h
   pub same_seen : seen input (packet_records input) ≡ seen pool (table_of table)
 
 -- an outcome whose answer is an acceptance holds a packet
-record AcceptedAs (a : List ℕ) (d : Decoded) (x : definition.Packet) : Type 0 where
+record AcceptedAs (a : List ℕ) (d : DecodedPacket) (x : definition.Packet) : Type 0 where
   packet : Packet
-  is_accepted : d ≡ decoder.Accepted packet
+  is_accepted : d ≡ Ok packet
   same : packet_as a packet ≡ x
 
-accepted_as : (a : List ℕ) (d : Decoded) (x : definition.Packet) → answer_with a d ≡ accepted x → AcceptedAs a d x
-unfolding answer_with
-accepted_as a (decoder.Accepted p) x e = record { packet = p; is_accepted = refl; same = cc }
-accepted_as a (decoder.Refused why) x e = absurd (not_accepted e)
+accepted_as : (a : List ℕ) (d : DecodedPacket) (x : definition.Packet) → answer_with a d ≡ accepted x → AcceptedAs a d x
+accepted_as a (Ok p) x e = record { packet = p; is_accepted = refl; same = cc }
+accepted_as a (Err why) x e = absurd (not_accepted e)
 
 -- `write` wrote n bytes to the front of out', and these are the input of `parse`, whose store holds as many records as the table has
 pub written_then_decoded : (κs : Lfts 3) (fields : Fields) (table pool : Slice) (out : MutSlice) (n : ℕ) (out' : MutSlice)
     (λs : Lfts 2) (input : Slice) (store : MutSlice) (r : Parsed) (store' : MutSlice)
-    → WritePacket κs fields table pool out (writer.Accepted n) out' → ParsePacket λs input store r store'
+    → WritePacket κs fields table pool out (Ok n) out' → ParsePacket λs input store r store'
     → Sized (header_as fields) → Bytes input.now
     → input.now ≡ take n out'.now
     → length (table_of table.now) ≤ room store.now
     → ReadAs input.now table.now pool.now (header_as fields) n r
-unfolding writers.answer_of output over packet_as packet_of
+unfolding output over packet_of
 written_then_decoded κs fields table pool out n out' λs input store r store' wrote read sized bytes input-is fits =
     let h = header_as fields in
     let s = table_bytes h table.now pool.now in
@@ -155,7 +151,6 @@ written_then_decoded κs fields table pool out n out' λs input store r store' w
 
 pub tried_of_the_decoder : (κs : Lfts 2) (input : Slice) (store : MutSlice) (p : Packet) (a : List ℕ) (store' : MutSlice)
     → ParsePacket κs input store (accepts p a) store' → (p.tried ≡ p.records) × (2 * p.tried ≤ p.length - 20)
-unfolding packet_as
 tried_of_the_decoder κs input store p a store' call =
     let b = attributes_tried (room store.now) input.now (packet_as a p) (left κs input store p a store' call).answer_is in
     (b.own, b.twice)
@@ -163,13 +158,12 @@ tried_of_the_decoder κs input store p a store' call =
 -- r is an acceptance that reaches the bound with 20 + 2k bytes
 pub record AtTheBound (k : ℕ) (r : Parsed) : Type 0 where
   pub packet : Packet
-  pub is_accepted : r.decoded ≡ decoder.Accepted packet
+  pub is_accepted : r.decoded ≡ Ok packet
   pub length_is : packet.length ≡ 20 + 2 * k
   pub tried_is : 2 * packet.tried ≡ packet.length - 20
 
 pub bound_is_reached : (κs : Lfts 2) (k : ℕ) (input : Slice) (store : MutSlice) (r : Parsed) (store' : MutSlice)
     → ParsePacket κs input store r store' → input.now ≡ extremal k → k ≤ room store.now → 20 + 2 * k ≤ most_packet → AtTheBound k r
-unfolding packet_as
 bound_is_reached κs k input store r store' call is fits short =
     let b = reached (room store.now) k fits short in
     let yes = ap (decoded (room store.now)) is ∙ b.is_accepted in

@@ -7,6 +7,7 @@ use mathlib.Core.Path.{◌≡◌, sym, ap, ap₂, ◌∙◌}
 use mathlib.Core.List.{List, [], ◌++◌}
 use lib.ListN.{length}
 use contract.Lifetimes.{Lfts}
+use Rattle.std.specs.Prelude.{Ok}
 use Rattle.octets.specs.Octets.{Bytes}
 use Rattle.octets.specs.Run.{item, tree}
 use Rattle.record.specs.Record.{Record, laid}
@@ -30,19 +31,15 @@ use Rattle.rfc2865.specs.Packet.{packet_records}
 use Rattle.rfc2865.proofs.TopLevel.{AtTop, packet_top, written_top}
 use Rattle.rfc2865.proofs.Whole as packets
 use Rattle.avps.specs.declared.Counts.{Counts}
-use Rattle.avps.specs.declared.Filled.TheVariants as filled
 use Rattle.avps.specs.Answers as avps
 use Rattle.diameter.specs.declared.Message.{Message}
-use Rattle.diameter.specs.declared.Decoded.TheVariants as decoder
-use Rattle.diameter.specs.Answers.{answer_of, message_as}
+use Rattle.diameter.specs.Answers.{message_as}
 use Rattle.writer.specs.declared.Fields.{Fields}
 use Rattle.writer.specs.Answers.{fields_as}
 use Rattle.radius.specs.declared.Packet.{Packet}
 use Rattle.radius.specs.Answers.{packet_as}
 use Rattle.radius_writer.specs.declared.Fields as radius
 use Rattle.radius_writer.specs.Answers.{header_as}
-use Rattle.record.specs.declared.written.Written.TheVariants as writer
-use Rattle.record.specs.Written as writers
 use Rattle.promises.proofs.OneOutcome.Calls.{Slice, MutSlice, Write, ParsePacket, WritePacket}
 use Rattle.promises.proofs.Ways.{Way, dictionary_of, Decode, DecodeAlone, accepts, accepts_alone, lawful, address_small}
 use Rattle.promises.proofs.RoundTrip.{left}
@@ -64,9 +61,9 @@ parented_back D place s n store more counted is w =
 
 -- a decoder accepted m and left its records in store'. `Bytes` is asked as in RoundTrip
 pub message_parented : (way : Way) (κs : Lfts 2) (limit : ℕ) (input : Slice) (store : MutSlice) (m : Message) (store' : MutSlice)
-    → Decode way κs limit input store (decoder.Accepted m) store' → Bytes input.now
+    → Decode way κs limit input store (Ok m) store' → Bytes input.now
     → Parented (dictionary_of way) (message_body input.now) (whole_records m.records store'.now)
-unfolding answer_of stored message_records
+unfolding stored message_records
 message_parented way κs limit input store m store' p bytes =
     let D = dictionary_of way in
     let s = input.now in
@@ -78,10 +75,10 @@ message_parented way κs limit input store m store' p bytes =
 
 -- the same of one AVP alone
 pub alone_parented : (way : Way) (κs : Lfts 2) (limit : ℕ) (input : Slice) (store : MutSlice) (c : Counts) (store' : MutSlice)
-    → DecodeAlone way κs limit input store (filled.Accepted c) store' → Bytes input.now
+    → DecodeAlone way κs limit input store (Ok c) store' → Bytes input.now
     → let D = dictionary_of way in
     Parented D (item (avps D) input.now) (whole_records c.records store'.now)
-unfolding avps.answer_of avps.counts_as stored alone_of run_counts alone_records
+unfolding avps.counts_as stored alone_of run_counts alone_records
 alone_parented way κs limit input store c store' p bytes =
     let D = dictionary_of way in
     let s = input.now in
@@ -94,9 +91,8 @@ alone_parented way κs limit input store c store' p bytes =
 
 -- `write` accepted a table
 pub table_parented : (κs : Lfts 3) (fields : Fields) (table pool : Slice) (out : MutSlice) (n : ℕ) (out' : MutSlice)
-    → Write κs fields table pool out (writer.Accepted n) out'
+    → Write κs fields table pool out (Ok n) out'
     → (own_parents (table_of table.now) ≡ told_parents (table_of table.now)) × InGroups [] (table_of table.now)
-unfolding writers.answer_of
 table_parented κs fields table pool out n out' p =
     let w = written_writable (fields_as fields) table.now pool.now (length out.now) n (sym p.0) in
     (w.0.told, in_groups (length pool.now) (table_of table.now) w.0.valid w.0.told)
@@ -113,7 +109,6 @@ packet_at_top κs input store p a store' call bytes =
     (packet_top s)
 
 pub attributes_at_top : (κs : Lfts 3) (fields : radius.Fields) (table pool : Slice) (out : MutSlice) (n : ℕ) (out' : MutSlice)
-    → WritePacket κs fields table pool out (writer.Accepted n) out' → AtTop (table_of table.now)
-unfolding writers.answer_of
+    → WritePacket κs fields table pool out (Ok n) out' → AtTop (table_of table.now)
 attributes_at_top κs fields table pool out n out' wrote =
     written_top (header_as fields) table.now pool.now (length out.now) n (sym wrote.0)

@@ -9,6 +9,8 @@ use lib.ListN.{length, take, drop}
 use lib.Seq.{take_at}
 use borrow.Author.Tests.{le-leb, le-ltb}
 use contract.Lifetimes.{Lfts}
+use Rattle.std.specs.Prelude.{Ok}
+use Rattle.promises.proofs.Outcomes.{Decoded}
 use Rattle.octets.specs.Octets.{Bytes, over}
 use Rattle.octets.specs.Run.{Tree, tree, tiles, deepest}
 use Rattle.refusal.specs.Answer.{accepted, passes}
@@ -25,11 +27,7 @@ use Rattle.round_trip.specs.Tops.{tops, top_records, roots}
 use Rattle.round_trip.proofs.Written.{written_writable}
 use Rattle.round_trip.proofs.ReadBack.{read_back}
 use Rattle.diameter.specs.declared.Message.{Message}
-use Rattle.diameter.specs.declared.Decoded.{Decoded}
-use Rattle.diameter.specs.declared.Decoded.TheVariants as decoder
 use Rattle.writer.specs.declared.Fields.{Fields}
-use Rattle.record.specs.declared.written.Written.TheVariants as writer
-use Rattle.record.specs.Written.{answer_of}
 use Rattle.writer.specs.Answers.{fields_as}
 use Rattle.promises.proofs.OneOutcome.Calls.{Slice, MutSlice, Write}
 use Rattle.promises.proofs.Ways.{Way, dictionary_of, Known, Decode, decodes}
@@ -63,7 +61,7 @@ same_length D s n r a stated = a.length_is ∙ stated
 -- r accepts the n bytes of the input, in which the records of depth 1 of the table stand
 pub record ReadAs (D : Dictionary) (input table pool : List ℕ) (n : ℕ) (r : Decoded) : Type 0 where
   pub message : Message
-  pub is_accepted : r ≡ decoder.Accepted message
+  pub is_accepted : r ≡ Ok message
   pub length_is : message.length ≡ n
   pub same_tops : tops (run D input) ≡ top_records pool (forest (table_of table))
   pub depth_one : roots (forest (table_of table)) ≡ of_depth 1 (table_of table)
@@ -72,12 +70,12 @@ pub record ReadAs (D : Dictionary) (input table pool : List ℕ) (n : ℕ) (r : 
 -- `Bytes` is asked as in RoundTrip.
 pub written_then_decoded : (κs : Lfts 3) (fields : Fields) (table pool : Slice) (out : MutSlice) (n : ℕ) (out' : MutSlice)
     (way : Way) (λs : Lfts 2) (limit : ℕ) (input : Slice) (store : MutSlice) (r : Decoded) (store' : MutSlice)
-    → Write κs fields table pool out (writer.Accepted n) out' → Known way → Decode way λs limit input store r store' → Bytes table.now
+    → Write κs fields table pool out (Ok n) out' → Known way → Decode way λs limit input store r store' → Bytes table.now
     → input.now ≡ take n out'.now
     → 1 ≤ limit → limit ≤ 64 → deepest (run (dictionary_of way) input.now) ≤ limit
     → length (message_records (dictionary_of way) input.now) ≤ capacity (length store.now)
     → ReadAs (dictionary_of way) input.now table.now pool.now n r
-unfolding over answer_of output
+unfolding over output
 written_then_decoded κs fields table pool out n out' way λs limit input store r store' p known q bytes input-is low high shallow fits =
     let D = dictionary_of way in
     let f = fields_as fields in

@@ -9,26 +9,17 @@ use lib.ListN.{get_or}
 use contract.Lifetimes.{Lfts}
 use lib.IntN.{ℤ}
 use denote.Ref.{MutBor}
+use Rattle.std.specs.Prelude.{Err}
 use Rattle.refusal.specs.Answer.{Refusal, Answer, accepted, refused}
 use Rattle.record.specs.Record.{Record}
 use Rattle.rfc6733.specs.Decoder.{Message}
 use Rattle.record.specs.Counts.{Counts}
 use Rattle.record.specs.Store.{stored, output}
 use Rattle.attribute.specs.declared.Reading.{Reading}
-use Rattle.avps.specs.declared.Filled.TheVariants as avps
-use Rattle.avps.specs.Answers as avps_answers
-use Rattle.diameter.specs.declared.Decoded.TheVariants as diameter
-use Rattle.diameter.specs.Answers as diameter_answers
 use Rattle.writer.specs.declared.Fields.{Fields}
-use Rattle.record.specs.declared.written.Written.TheVariants as writer
-use Rattle.record.specs.Written as writer_answers
-use Rattle.rules.specs.declared.shifting.Shifted.TheVariants as shifting
-use Rattle.rules.specs.Shifting as shifting_answers
 use Rattle.rules.specs.Shifting.{table_after}
-use Rattle.unit_value.specs.declared.Ordering.{Ordering}
+use Rattle.std.specs.declared.cmp.Ordering.{Ordering}
 use Rattle.rfc2865.specs.Packet.{Packet}
-use Rattle.radius.specs.declared.Decoded.TheVariants as radius
-use Rattle.radius.specs.Answers as radius_answers
 use Rattle.radius_writer.specs.declared.Fields as packet
 use Rattle.results.specs.Packets as packets
 use Rattle.results.specs.Results.{message_result, avp_result, written_result, shifted_result}
@@ -39,43 +30,43 @@ use Rattle.promises.proofs.OneOutcome.Calls.{Slice, MutSlice, Parse, ParseAvp, P
 -- ---- in Rattle: the answer is a refusal
 
 pub parse_refusal_changes_nothing : (κs : Lfts 2) (reading : Reading) (limit : ℕ) (input : Slice) (store : MutSlice) (why : Refusal) (store' : MutSlice)
-    → Parse κs reading limit input store (diameter.Refused why) store' → store'.now ≡ store.now
-unfolding diameter_answers.answer_of stored
+    → Parse κs reading limit input store (Err why) store' → store'.now ≡ store.now
+unfolding stored
 parse_refusal_changes_nothing κs reading limit input store why store' p = p.1
 
 pub parse_avp_refusal_changes_nothing : (κs : Lfts 2) (reading : Reading) (limit : ℕ) (input : Slice) (store : MutSlice) (why : Refusal) (store' : MutSlice)
-    → ParseAvp κs reading limit input store (avps.Refused why) store' → store'.now ≡ store.now
-unfolding avps_answers.answer_of stored
+    → ParseAvp κs reading limit input store (Err why) store' → store'.now ≡ store.now
+unfolding stored
 parse_avp_refusal_changes_nothing κs reading limit input store why store' p = p.1
 
 pub parse_by_refusal_changes_nothing : (κs : Lfts 2) (edition limit : ℕ) (input : Slice) (store : MutSlice) (why : Refusal) (store' : MutSlice)
-    → ParseBy κs edition limit input store (diameter.Refused why) store' → store'.now ≡ store.now
-unfolding diameter_answers.answer_of stored
+    → ParseBy κs edition limit input store (Err why) store' → store'.now ≡ store.now
+unfolding stored
 parse_by_refusal_changes_nothing κs edition limit input store why store' p = p.1
 
 pub parse_avp_by_refusal_changes_nothing : (κs : Lfts 2) (edition limit : ℕ) (input : Slice) (store : MutSlice) (why : Refusal) (store' : MutSlice)
-    → ParseAvpBy κs edition limit input store (avps.Refused why) store' → store'.now ≡ store.now
-unfolding avps_answers.answer_of stored
+    → ParseAvpBy κs edition limit input store (Err why) store' → store'.now ≡ store.now
+unfolding stored
 parse_avp_by_refusal_changes_nothing κs edition limit input store why store' p = p.1
 
 pub write_refusal_changes_nothing : (κs : Lfts 3) (fields : Fields) (table pool : Slice) (out : MutSlice) (why : Refusal) (out' : MutSlice)
-    → Write κs fields table pool out (writer.Refused why) out' → out'.now ≡ out.now
-unfolding writer_answers.answer_of output
+    → Write κs fields table pool out (Err why) out' → out'.now ≡ out.now
+unfolding output
 write_refusal_changes_nothing κs fields table pool out why out' p = p.1
 
 pub parse_packet_refusal_changes_nothing : (κs : Lfts 2) (input : Slice) (store : MutSlice) (why : Refusal) (authenticator : List ℕ) (store' : MutSlice)
-    → ParsePacket κs input store (record { decoded = radius.Refused why; authenticator = authenticator }) store' → store'.now ≡ store.now
-unfolding radius_answers.answer_with stored
+    → ParsePacket κs input store (record { decoded = Err why; authenticator = authenticator }) store' → store'.now ≡ store.now
+unfolding stored
 parse_packet_refusal_changes_nothing κs input store why authenticator store' p = p.1.1
 
 pub write_packet_refusal_changes_nothing : (κs : Lfts 3) (fields : packet.Fields) (table pool : Slice) (out : MutSlice) (why : Refusal) (out' : MutSlice)
-    → WritePacket κs fields table pool out (writer.Refused why) out' → out'.now ≡ out.now
-unfolding writer_answers.answer_of output
+    → WritePacket κs fields table pool out (Err why) out' → out'.now ≡ out.now
+unfolding output
 write_packet_refusal_changes_nothing κs fields table pool out why out' p = p.1
 
 pub shift_refusal_changes_nothing : (κs : Lfts 1) (table : MutSlice) (bytes records : ℕ) (why : Refusal) (table' : MutSlice)
-    → Shift κs table bytes records (shifting.Refused why) table' → table'.now ≡ table.now
-unfolding shifting_answers.answer_of table_after
+    → Shift κs table bytes records (Err why) table' → table'.now ≡ table.now
+unfolding table_after
 shift_refusal_changes_nothing κs table bytes records why table' p = p.1
 
 -- ---- in the library: the number, the first of the result, is not 0
@@ -91,15 +82,15 @@ lent_unless_0 shown left lent zero same (accepted x) h = let z = zero x in absur
 lent_unless_0 shown left lent zero same (refused why) h = same why
 
 message_store : (x : Answer Message) (rs : List Record) (store : List ℕ) → 1 ≤ number (message_result x) → stored x rs store ≡ store
-unfolding message_result stored
+unfolding stored
 message_store x rs store = lent_unless_0 message_result (λ y. stored y rs store) store (λ m. refl) (λ why. refl) x
 
 avp_store : (x : Answer Counts) (rs : List Record) (store : List ℕ) → 1 ≤ number (avp_result x) → stored x rs store ≡ store
-unfolding avp_result stored
+unfolding stored
 avp_store x rs store = lent_unless_0 avp_result (λ y. stored y rs store) store (λ c. refl) (λ why. refl) x
 
 written_out : (x : Answer ℕ) (message out : List ℕ) → 1 ≤ number (written_result x) → output x message out ≡ out
-unfolding written_result output
+unfolding output
 written_out x message out = lent_unless_0 written_result (λ y. output y message out) out (λ total. refl) (λ why. refl) x
 
 pub tandrekily_message_refusal_changes_nothing : (κs : Lfts 3) (rfc : Bool) (limit : ℕ) (input : Slice) (store result store' result' : MutSlice)
@@ -124,7 +115,7 @@ tandrekily_write_refusal_changes_nothing κs flags code app_id hop_id end_id tab
     p.1 ∙ written_out _ _ _ (rw p.0 at h)
 
 moved_table : (bytes records : ℕ) (x : Answer ℕ) (table : List ℕ) → 1 ≤ number (shifted_result x) → table_after bytes records x table ≡ table
-unfolding shifted_result table_after
+unfolding table_after
 moved_table bytes records x table =
     lent_unless_0 shifted_result (λ y. table_after bytes records y table) table (λ n. refl) (λ why. refl) x
 
@@ -146,15 +137,15 @@ tandrekily_compare_refusal_changes_nothing κs digits exponent other_digits othe
 -- ---- in the library, RADIUS: of the store and of the authenticator
 
 packet_store : (x : Answer Packet) (rs : List Record) (store : List ℕ) → 1 ≤ number (packets.packet_result x) → stored x rs store ≡ store
-unfolding packets.packet_result stored
+unfolding stored
 packet_store x rs store = lent_unless_0 packets.packet_result (λ y. stored y rs store) store (λ p. refl) (λ why. refl) x
 
 authenticator_lent : (x : Answer Packet) (lent : List ℕ) → 1 ≤ number (packets.packet_result x) → authenticator_after x lent ≡ lent
-unfolding packets.packet_result authenticator_after
+unfolding authenticator_after
 authenticator_lent x lent = lent_unless_0 packets.packet_result (λ y. authenticator_after y lent) lent (λ p. refl) (λ why. refl) x
 
 packet_out : (x : Answer ℕ) (bytes out : List ℕ) → 1 ≤ number (packets.written_result x) → output x bytes out ≡ out
-unfolding packets.written_result output
+unfolding output
 packet_out x bytes out = lent_unless_0 packets.written_result (λ y. output y bytes out) out (λ total. refl) (λ why. refl) x
 
 pub tandrekily_radius_refusal_changes_nothing : (κs : Lfts 4) (input : Slice) (store authenticator result store' authenticator' result' : MutSlice)

@@ -8,8 +8,11 @@ use native.Mathlib.Omega.{arith}
 use lib.ListN.{length, take}
 use lib.Seq.{take_at}
 use contract.Lifetimes.{Lfts}
+use Rattle.std.specs.Prelude.{Ok}
+use Rattle.promises.proofs.Outcomes.{Written}
 use Rattle.octets.specs.Octets.{Bytes, over}
 use Rattle.refusal.specs.Answer.{Answer, accepted}
+use Rattle.refusal.specs.Answer as writers
 use Rattle.rfc6733.specs.Header.{header_of, message_length}
 use Rattle.rfc6733.specs.Dictionary.{Dictionary}
 use Rattle.record.specs.Record.{record_size, laid}
@@ -23,14 +26,10 @@ use Rattle.round_trip.specs.Trip.{fields_of}
 use Rattle.round_trip.proofs.RoundTrip.{round_trip}
 use Rattle.header.specs.Parsed.{header_as}
 use Rattle.diameter.specs.declared.Message.{Message}
-use Rattle.diameter.specs.declared.Decoded.TheVariants as decoder
-use Rattle.diameter.specs.Answers.{answer_of, message_as}
+use Rattle.diameter.specs.Answers.{message_as}
 use Rattle.writer.specs.declared.Fields.{Fields}
-use Rattle.record.specs.declared.written.Written.{Written}
-use Rattle.record.specs.declared.written.Written.TheVariants as writer
-use Rattle.record.specs.Written as writers
 use Rattle.writer.specs.Answers.{fields_as}
-use Rattle.record.proofs.AnswerOf.{answer_of_injective}
+use Rattle.refusal.proofs.AnswerOf.{answer_of_injective}
 use Rattle.promises.proofs.OneOutcome.Calls.{Slice, MutSlice, Write}
 use Rattle.promises.proofs.Ways.{Way, dictionary_of, Decode, accepts, lawful}
 
@@ -60,13 +59,13 @@ left D limit room s m store rest e is =
 -- function that reads through it. So it stands here.
 pub decoded_then_written : (way : Way) (κs : Lfts 2) (limit : ℕ) (input : Slice) (store : MutSlice) (m : Message) (store' : MutSlice)
     (λs : Lfts 3) (fields : Fields) (table pool : Slice) (out : MutSlice) (r : Written) (out' : MutSlice)
-    → Decode way κs limit input store (decoder.Accepted m) store' → Write λs fields table pool out r out' → Bytes input.now
+    → Decode way κs limit input store (Ok m) store' → Write λs fields table pool out r out' → Bytes input.now
     → fields_as fields ≡ fields_of (header_as m.header)
     → table.now ≡ take (m.records * record_size) store'.now
     → pool.now ≡ input.now
     → m.length ≤ length out.now
-    → (r ≡ writer.Accepted m.length) × (out'.now ≡ over (take m.length input.now) out.now)
-unfolding answer_of stored writers.answer_of output
+    → (r ≡ Ok m.length) × (out'.now ≡ over (take m.length input.now) out.now)
+unfolding stored output
 decoded_then_written way κs limit input store m store' λs fields table pool out r out' p q bytes fields_are table_is pool-is room =
     let D = dictionary_of way in
     let says = accepts way κs limit input store m store' p in
@@ -79,7 +78,7 @@ decoded_then_written way κs limit input store m store' λs fields table pool ou
     let same : table_bytes (fields_as fields) table.now pool.now ≡ take m.length input.now =
     rw (f, t, pool-is) (again.same_bytes ∙ ap (λ (n : ℕ). take n input.now) l.length_is)
     in (
-      answer_of_injective r (writer.Accepted m.length) ok,
+      answer_of_injective r (Ok m.length) ok,
       q.1
           ∙ ap (λ (x : Answer ℕ). output x (table_bytes (fields_as fields) table.now pool.now) out.now) ok
           ∙ ap (λ (x : List ℕ). over x out.now) same,

@@ -4,6 +4,7 @@ use Prim.Native.Nat.{ℕ, ◌≤◌}
 use mathlib.Core.Path.{◌≡◌, sym, ap₂, ◌∙◌}
 use mathlib.Core.List.{List}
 use contract.Lifetimes.{Lfts}
+use Rattle.std.specs.Prelude.{Ok}
 use Rattle.octets.specs.Octets.{Bytes}
 use Rattle.octets.specs.Run.{tree, deepest}
 use Rattle.record.specs.Store.{stored}
@@ -16,16 +17,15 @@ use Rattle.rfc6733.proofs.JoinedMessages.{Tiled, when_accepted}
 use Rattle.rfc6733.proofs.Editions.{accepted_by}
 use Rattle.round_trip.proofs.Whole.{whole}
 use Rattle.diameter.specs.declared.Message.{Message}
-use Rattle.diameter.specs.declared.Decoded.TheVariants.{Accepted}
-use Rattle.diameter.specs.Answers.{answer_of, message_as}
+use Rattle.diameter.specs.Answers.{message_as}
 use Rattle.promises.proofs.OneOutcome.Calls.{Slice, MutSlice}
 use Rattle.promises.proofs.Ways.{Way, reading, edition, dictionary_of, Known, Decode, Call, Decodes, accepts, lawful, address_small}
 use Rattle.promises.proofs.RoundTrip.{Left, left}
 
 pub records_read : (way : Way) (limit : ℕ) (input store : List ℕ) (m : Message) (store' : List ℕ)
-    → Decodes (dictionary_of way) limit input store (Accepted m) store' → Bytes input
+    → Decodes (dictionary_of way) limit input store (Ok m) store' → Bytes input
     → whole_records m.records store' ≡ message_records (dictionary_of way) input
-unfolding answer_of stored
+unfolding stored
 records_read way limit input store m store' says bytes =
     let D = dictionary_of way in
     let e = sym says.answer_is in
@@ -35,13 +35,12 @@ records_read way limit input store m store' says bytes =
 
 -- an acceptance is given only by an edition that is known
 pub known_way : (way : Way) (κs : Lfts 2) (limit : ℕ) (input : Slice) (store : MutSlice) (m : Message) (store' : MutSlice)
-    → Decode way κs limit input store (Accepted m) store' → Known way
-unfolding answer_of
+    → Decode way κs limit input store (Ok m) store' → Known way
 known_way (reading r) κs limit input store m store' p = tt
 known_way (edition n) κs limit input store m store' p = accepted_by n limit _ input.now (message_as m) (sym p.0)
 
-pub record Told {way : Way} {limit : ℕ} {m : Message} (c : Call way limit (Accepted m)) : Type 0 where
-  pub says : Decodes (dictionary_of way) limit c.input.now c.store.now (Accepted m) c.store'.now
+pub record Told {way : Way} {limit : ℕ} {m : Message} (c : Call way limit (Ok m)) : Type 0 where
+  pub says : Decodes (dictionary_of way) limit c.input.now c.store.now (Ok m) c.store'.now
   pub known : Known way
   pub tiled : Tiled (dictionary_of way) limit c.input.now
   pub shallow : deepest (tree (avps (dictionary_of way)) (message_body c.input.now)) ≤ limit
@@ -49,8 +48,8 @@ pub record Told {way : Way} {limit : ℕ} {m : Message} (c : Call way limit (Acc
   pub left_is : Left (dictionary_of way) c.input.now m c.store'.now
   pub whole_is : Whole (message_records (dictionary_of way) c.input.now)
 
-pub told : (way : Way) (limit : ℕ) (m : Message) (c : Call way limit (Accepted m)) → Told c
-unfolding answer_of stored
+pub told : (way : Way) (limit : ℕ) (m : Message) (c : Call way limit (Ok m)) → Told c
+unfolding stored
 told way limit m c =
     let D = dictionary_of way in
     let s = c.input.now in
@@ -68,7 +67,7 @@ told way limit m c =
     }
 
 -- the records that it left
-pub records_left_lem : (way : Way) (limit : ℕ) (m : Message) (c : Call way limit (Accepted m))
+pub records_left_lem : (way : Way) (limit : ℕ) (m : Message) (c : Call way limit (Ok m))
     → whole_records m.records c.store'.now ≡ message_records (dictionary_of way) c.input.now
 records_left_lem way limit m c =
     records_read way limit c.input.now c.store.now m c.store'.now (told way limit m c).says c.bytes

@@ -5,6 +5,8 @@ use mathlib.Core.Path.{◌≡◌, sym, ◌∙◌}
 use mathlib.Core.Bool.{true, false}
 use mathlib.Core.List.{List, ◌++◌}
 use contract.Lifetimes.{Lfts}
+use Rattle.std.specs.Prelude.{Ok, Err}
+use Rattle.promises.proofs.Outcomes.{Decoded, Filled}
 use Rattle.octets.specs.Octets.{Bytes}
 use Rattle.refusal.specs.Answer.{Refusal}
 use Rattle.refusal.proofs.Answers.{among}
@@ -25,11 +27,7 @@ use Rattle.attribute.specs.declared.Reading.{Reading}
 use Rattle.attribute.specs.declared.Reading.TheVariants.{Sawp, Rfc}
 use Rattle.attribute.specs.Attributes.{dictionary}
 use Rattle.diameter.specs.declared.Message.{Message}
-use Rattle.diameter.specs.declared.Decoded.{Decoded}
-use Rattle.diameter.specs.declared.Decoded.TheVariants.{Accepted, Refused}
 use Rattle.avps.specs.declared.Counts.{Counts}
-use Rattle.avps.specs.declared.Filled.{Filled}
-use Rattle.avps.specs.declared.Filled.TheVariants as filled
 use Rattle.avps.specs.Answers as avps
 use Rattle.diameter.specs.Answers.{answer_of, message_as, store_after}
 use Rattle.avp_alone.specs.Answers.{store_after_avp}
@@ -74,20 +72,18 @@ decodes (edition n) κs limit input store d store' known p = record { answer_is 
 
 -- an acceptance is given only by an edition that is known
 pub accepts : (way : Way) (κs : Lfts 2) (limit : ℕ) (input : Slice) (store : MutSlice) (m : Message) (store' : MutSlice)
-    → Decode way κs limit input store (Accepted m) store' → Decodes (dictionary_of way) limit input.now store.now (Accepted m) store'.now
-unfolding answer_of
-accepts (reading r) κs limit input store m store' p = decodes (reading r) κs limit input store (Accepted m) store' tt p
+    → Decode way κs limit input store (Ok m) store' → Decodes (dictionary_of way) limit input.now store.now (Ok m) store'.now
+accepts (reading r) κs limit input store m store' p = decodes (reading r) κs limit input store (Ok m) store' tt p
 accepts (edition n) κs limit input store m store' p =
-    decodes (edition n) κs limit input store (Accepted m) store' (accepted_by n limit _ input.now (message_as m) (sym p.0)) p
+    decodes (edition n) κs limit input store (Ok m) store' (accepted_by n limit _ input.now (message_as m) (sym p.0)) p
 
 -- and so is a refusal for the bytes, which is neither that of the limit nor that of the edition
 pub refuses : (way : Way) (κs : Lfts 2) (limit : ℕ) (input : Slice) (store : MutSlice) (why : Refusal) (store' : MutSlice)
     → ((n : ℕ) → among why (limit_refusals limit ++ edition_refusals n) ≡ false)
-    → Decode way κs limit input store (Refused why) store' → Decodes (dictionary_of way) limit input.now store.now (Refused why) store'.now
-unfolding answer_of
-refuses (reading r) κs limit input store why store' later p = decodes (reading r) κs limit input store (Refused why) store' tt p
+    → Decode way κs limit input store (Err why) store' → Decodes (dictionary_of way) limit input.now store.now (Err why) store'.now
+refuses (reading r) κs limit input store why store' later p = decodes (reading r) κs limit input store (Err why) store' tt p
 refuses (edition n) κs limit input store why store' later p =
-    decodes (edition n) κs limit input store (Refused why) store' (refused_by n limit _ input.now why (later n) (sym p.0)) p
+    decodes (edition n) κs limit input store (Err why) store' (refused_by n limit _ input.now why (later n) (sym p.0)) p
 
 -- ---- one AVP alone
 
@@ -100,9 +96,8 @@ pub record DecodesAlone (D : Dictionary) (limit : ℕ) (input store : List ℕ) 
   pub store_is : store' ≡ store_after_avp D input store d
 
 pub accepts_alone : (way : Way) (κs : Lfts 2) (limit : ℕ) (input : Slice) (store : MutSlice) (c : Counts) (store' : MutSlice)
-    → DecodeAlone way κs limit input store (filled.Accepted c) store'
-    → DecodesAlone (dictionary_of way) limit input.now store.now (filled.Accepted c) store'.now
-unfolding avps.answer_of
+    → DecodeAlone way κs limit input store (Ok c) store'
+    → DecodesAlone (dictionary_of way) limit input.now store.now (Ok c) store'.now
 accepts_alone (reading r) κs limit input store c store' p = record { answer_is = p.0; store_is = p.1 }
 accepts_alone (edition n) κs limit input store c store' p =
     let known = alone_accepted_by n limit _ input.now (avps.counts_as c) (sym p.0) in

@@ -1,50 +1,68 @@
--- What stands at the front of what is left of a run, for loops over it: the second byte there is the length of an attribute, and what is
--- left after a complete one is the run from that length on.
-use Prim.Native.Nat.{ℕ, ◌+◌, ◌-◌, ◌≤◌}
-use mathlib.Core.Path.{◌≡◌, sym, ap, ◌∙◌}
-use mathlib.Core.Bool.{true, false}
-use mathlib.Core.List.{List}
+-- What stands at the front of what is left of a run, for loops over it: the second byte there is the length of an attribute, and what
+-- is left after a complete one is the run from that length on.
+use Prim.Native.Nat.{ℕ, ◌≤◌, ◌<◌}
+use mathlib.Core.Path.{◌≡◌, refl, sym, ap}
+use mathlib.Core.Bool.{true, false, ◌||◌}
+use mathlib.Core.List.{List, [], ◌∷◌}
 use mathlib.Core.Logic.{inl, inr}
 use native.Mathlib.Omega.{arith}
+use lib.Dec.{ltb}
 use lib.ListN.{length, get_or, take, drop}
-use lib.Seq.{get_or-drop}
-use Rattle.octets.specs.Run.{item, after}
+use borrow.Author.Tests.{le-ltb}
+use Rattle.octets.specs.Run.{plain, item, after, tree, items}
 use Rattle.octets.proofs.Numbers.{one_byte}
-use Rattle.octets.proofs.Turns.{turn_fits, turn_next, turn_own}
+use Rattle.octets.proofs.Runs.{false_true, tree_none, tree_broken, tree_plain}
 use Rattle.refusal.proofs.Tests.{decide}
 use Rattle.rfc2865.specs.Attribute.{attribute_length, complete, attributes}
 use Rattle.rfc2865.proofs.Items.{Whole, complete_whole, whole_complete, sound}
 
-pub stated : (s : List ℕ) (at : ℕ) → get_or s (at + 1) 0 ≡ attribute_length (drop at s)
-stated s at = sym (one_byte (drop at s) 1 ∙ get_or-drop at s 1 0)
+pub stated : (s : List ℕ) → get_or s 1 0 ≡ attribute_length s
+stated s = sym (one_byte s 1)
 
-pub stuck : (s : List ℕ) (at : ℕ) → (Whole (drop at s) → ⊥) → complete (drop at s) ≡ false
-stuck s at none = elim (decide (complete (drop at s))) [ inl here ↦ absurd (none (complete_whole (drop at s) here)) | inr e ↦ e ]
+-- ---- no attribute is complete at the front
 
--- ---- a turn of a loop over s, where n bytes from `at` on are a complete attribute
+pub stuck : (s : List ℕ) → (Whole s → ⊥) → complete s ≡ false
+stuck s none = elim (decide (complete s)) [ inl here ↦ absurd (none (complete_whole s here)) | inr e ↦ e ]
 
-pub record Turn (s : List ℕ) (at n : ℕ) : Type 0 where
-  pub complete_here : complete (drop at s) ≡ true
-  pub whole : Whole (drop at s)
-  pub length_is : n ≡ attribute_length (drop at s)
-  pub fits : at + n ≤ length s
+-- by its length
+pub stated_wrong : (s : List ℕ) → ltb (get_or s 1 0) 2 || ltb (length s) (get_or s 1 0) ≡ true → complete s ≡ false
+stated_wrong s e =
+    stuck s
+    (λ w.
+    let is = stated s in
+    false_true (rw (le-ltb (get_or s 1 0) 2 (omega (arith, w.least)), le-ltb (length s) (get_or s 1 0) (omega (arith, w.there))) at e))
+
+-- since one byte is too few
+pub too_few : (s : List ℕ) → length s < 2 → complete s ≡ false
+too_few s few = stuck s (λ w. omega (arith, w.least, w.there))
+
+-- ---- a turn of a loop, where the first n bytes of s are a complete attribute
+
+pub record Turn (s : List ℕ) (n : ℕ) : Type 0 where
+  pub whole : Whole s
+  pub length_is : n ≡ attribute_length s
+  pub fits : n ≤ length s
   pub some : 2 ≤ n
-  -- what follows the attribute, and its own bytes
-  pub next : drop (at + n) s ≡ after attributes (drop at s)
-  pub own : take (at + n - at) (drop at s) ≡ item attributes (drop at s)
+  pub goes_on : tree attributes s ≡ plain (take n s) (tree attributes (drop n s))
 
-pub turn : (s : List ℕ) (at : ℕ) → Whole (drop at s) → Turn s at (get_or s (at + 1) 0)
-turn s at w =
-    let n = get_or s (at + 1) 0 in
-    let is = stated s at in
-    let here = whole_complete (drop at s) w in
-    let back : at + n - at ≡ n = omega arith in
+pub turn : (s : List ℕ) → Whole s → Turn s (get_or s 1 0)
+unfolding item after
+turn s w =
+    let is = stated s in
+    let here = whole_complete s w in
     record {
-      complete_here = here;
       whole = w;
       length_is = is;
-      fits = turn_fits attributes sound s at n here is;
+      fits = omega (arith, w.there);
       some = omega (arith, w.least);
-      next = turn_next attributes sound s at n here is;
-      own = ap (λ (k : ℕ). take k (drop at s)) back ∙ turn_own attributes sound s at n here is;
+      goes_on = rw is (tree_plain attributes sound s here refl);
     }
+
+-- where an attribute is left, one stands at the front
+pub first : (s : List ℕ) → 0 < length (items (tree attributes s)) → Whole s
+first [] some = absurd (let none = ap items (tree_none attributes) in omega (arith, ap length none))
+first (b ∷ s) some =
+    elim (decide (complete (b ∷ s))) [
+      | inl here ↦ complete_whole (b ∷ s) here
+      | inr e ↦ absurd (let none = ap items (tree_broken attributes sound (b ∷ s) (omega arith) e) in omega (arith, ap length none))
+    ]

@@ -1,6 +1,3 @@
 mod Fronts
 mod Counting
-mod OneRecord
 mod Filling
-pub mod Answered
-pub mod AnswerOf

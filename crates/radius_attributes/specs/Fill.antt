@@ -1,14 +1,14 @@
 -- What the functions that put records ask and leave.
-use Rattle.std.specs.Prelude.{ℕ, ◌+◌, ◌-◌, ◌*◌, ◌≤◌, ◌≡◌, true, List, ◌++◌, length, replicate}
+use Rattle.std.specs.Prelude.{ℕ, ◌+◌, ◌-◌, ◌*◌, ◌≤◌, ◌≡◌, List, ◌++◌, length, replicate}
 use Rattle.octets.specs.Octets.{over}
 use Rattle.octets.specs.Run.{Tree, items}
 use Rattle.record.specs.Record.{record_size, last_place, record_bytes, laid}
-use Rattle.rfc2865.specs.Attribute.{attribute_length, complete}
+use Rattle.rfc2865.specs.Attribute.{head_size, attribute_length}
 use Rattle.rfc2865.specs.Records.{value_of, record_of, records, errors}
 
 -- s is an attribute's own bytes, all of them, whose places fit the four bytes of a record
 pub record Own (place : ℕ) (s : List ℕ) : Type 0 where
-  pub whole : complete s ≡ true
+  pub least : head_size ≤ length s
   pub length_is : attribute_length s ≡ length s
   pub places_fit : place + length s ≤ last_place
 

@@ -4,5 +4,13 @@ use Rattle.record.specs.Record.{Record}
 use Rattle.record.specs.Parents.{top_level}
 use Rattle.record.specs.Table.{all}
 
-unfoldable pub is_fixed : Record → Bool
-is_fixed r = all (eqb r.depth 1 ∷ eqb r.flags 0 ∷ eqb r.vendor 0 ∷ eqb r.padding 0 ∷ eqb r.pads 0 ∷ eqb r.parent top_level ∷ [])
+abbrev pub is_fixed : Record → Bool
+is_fixed r =
+    all
+    (eqb r.depth 1
+    ∷ eqb r.flags 0
+    ∷ eqb r.vendor 0
+    ∷ eqb r.padding 0
+    ∷ eqb r.pads 0
+    ∷ eqb r.parent top_level
+    ∷ [])

@@ -9,9 +9,9 @@ ghost use Rattle.radius_rules.specs.Rules.{is_fixed};
 
 use record::Record;
 
-/// A type and a length are a byte each (RFC 2865, section 5), and the header is both.
-pub const HEADER_SIZE: u32 = 2;
+const HEADER_SIZE: u32 = rfc2865::attribute::HEADER_SIZE as u32;
 
+// A type and a length are a byte each.
 const MOST_CODE: u32 = 255;
 
 const MOST_LENGTH: u32 = 255;
@@ -20,56 +20,32 @@ const MOST_LENGTH: u32 = 255;
 fn is_fixed(r: Record) -> bool
     ensures { result ≡ is_fixed r }
 {
-    if r.depth != 1 {
-        return false;
-    }
-    if r.flags != 0 {
-        return false;
-    }
-    if r.vendor != 0 {
-        return false;
-    }
-    if r.padding != 0 {
-        return false;
-    }
-    if r.pads != 0 {
-        return false;
-    }
-    r.parent == Record::TOP_LEVEL
+    r.depth == 1
+        && r.flags == 0
+        && r.vendor == 0
+        && r.padding == 0
+        && r.pads == 0
+        && r.parent == Record::TOP_LEVEL
 }
 
 // The rules of a record, where so many bytes are there to point into.
+#[tactic(auto, unfolding(rfc2865::specs::Writer::keeps))]
 fn keeps(r: Record, available: usize) -> bool
     ensures { result ≡ keeps available r }
 {
-    if MOST_CODE < r.code {
-        return false;
-    }
-    if r.length < HEADER_SIZE {
-        return false;
-    }
-    if MOST_LENGTH < r.length {
-        return false;
-    }
-    if !is_fixed(r) {
-        return false;
-    }
-    let place = r.place as usize;
-    let size = (r.length - HEADER_SIZE) as usize;
-    place + size <= available
+    r.code <= MOST_CODE
+        && HEADER_SIZE <= r.length
+        && r.length <= MOST_LENGTH
+        && is_fixed(r)
+        && r.place as usize + (r.length - HEADER_SIZE) as usize <= available
 }
 
 /// How many records keep the rules before the first that breaks one.
 pub fn keepers(table: &[u8], available: usize) -> usize
     ensures { result ≡ keepers available (table_of table.now) }
 {
-    let mut kept: usize = 0;
-    while kept < table.len() / Record::SIZE {
-        let r = Record::get(&table[kept * Record::SIZE..]);
-        if !keeps(r, available) {
-            return kept;
-        }
-        kept += 1;
-    }
-    kept
+    table
+        .chunks_exact(Record::SIZE)
+        .take_while(|row| keeps(Record::get(row), available))
+        .count()
 }

@@ -7,27 +7,17 @@ ghost use Rattle.radius_size.specs.Sizing.{sized_of};
 
 use record::Record;
 
-/// How many bytes the attributes of a table take, or that there are more than allowed.
-#[derive(Clone, Copy)]
-pub enum Measured {
-    Over,
-    Size(usize),
-}
-
-/// Sums up the records' lengths while they are within `most`.
-pub fn size_run(table: &[u8], most: usize) -> Measured
+/// How many bytes the attributes of a table take, if no more than `most`: the sum of the records' lengths.
+pub fn size_run(table: &[u8], most: usize) -> Option<usize>
     ensures { result ≡ sized_of most (table_of table.now) }
 {
-    let mut records: usize = 0;
     let mut size: usize = 0;
-    while records < table.len() / Record::SIZE {
-        let r = Record::get(&table[records * Record::SIZE..]);
-        let length = r.length as usize;
+    for row in table.chunks_exact(Record::SIZE) {
+        let length = Record::get(row).length as usize;
         if most - size < length {
-            return Measured::Over;
+            return None;
         }
         size += length;
-        records += 1;
     }
-    Measured::Size(size)
+    Some(size)
 }

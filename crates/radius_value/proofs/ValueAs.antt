@@ -8,5 +8,4 @@ abbrev back : values.Value → Value
 back v = record { kind = v.kind; number = v.number; errors = v.errors }
 
 pub value_as_injective : (v w : Value) → value_as v ≡ value_as w → v ≡ w
-unfolding value_as
 value_as_injective v w e = ap back e

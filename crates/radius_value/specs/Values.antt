@@ -2,5 +2,5 @@
 use Rattle.record.specs.Value as values
 use Rattle.radius_value.specs.declared.Value.{Value}
 
-unfoldable pub value_as : Value → values.Value
+abbrev pub value_as : Value → values.Value
 value_as v = record { kind = v.kind; errors = v.errors; number = v.number }

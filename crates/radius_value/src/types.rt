@@ -1,4 +1,4 @@
-// The kinds of the types of attributes (RFC 2865, sections 5.1 to 5.43; RFC 2866, sections 5.1 to 5.12), as a table by number.
+// The kinds of the types of attributes, as a table by number (RFC 2865, sections 5.1 to 5.43; RFC 2866, 5.1 to 5.12).
 ghost use Rattle.std.specs.Prelude.{◌≡◌};
 ghost use Rattle.rfc2865.specs.Types.{kind_of};
 
@@ -77,9 +77,5 @@ const KINDS: [u8; TYPES] = [
 pub fn kind(code: u8) -> u8
     ensures { result ≡ kind_of code }
 {
-    let code = code as usize;
-    if TYPES <= code {
-        return UNHANDLED;
-    }
-    KINDS[code]
+    KINDS.get(code as usize).copied().unwrap_or(UNHANDLED)
 }

@@ -1,4 +1,5 @@
--- How long a table's packet is: its header, and its records' lengths. The type of the header's fields says that the authenticator has 16 bytes.
+-- How long a table's packet is: its header, and its records' lengths. The type of the header's fields says that the
+-- authenticator has 16 bytes.
 use Prim.Native.Nat.{ℕ, ◌+◌}
 use mathlib.Core.Path.{◌≡◌, refl, ◌∙◌}
 use mathlib.Core.List.{List, [], ◌∷◌}

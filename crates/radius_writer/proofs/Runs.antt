@@ -1,5 +1,5 @@
--- What a loop over a table has put so far: the bytes of the records passed stand over the front of the output, and the next attribute is
--- put right behind them.
+-- What a loop over a table has put so far: the bytes of the records passed stand over the front of the output, and the next
+-- attribute is put right behind them.
 use Prim.Native.Nat.{ℕ, ◌+◌, ◌-◌}
 use mathlib.Core.Path.{◌≡◌, refl, sym, ◌∙◌}
 use mathlib.Core.List.{List, [], ◌∷◌, ◌++◌, append_assoc, append-nil}
@@ -28,8 +28,9 @@ module _ {pool : List ℕ} {all : List Record} where
   none_put {out} k =
       record { kept = k; put = []; size_is = refl; lengths_are = omega arith; bytes_are = refl; out_is = sym (over_none out) }
 
-  pub one_put : {left rest : List Record} {r : Record} {b : ℕ} {before now back : List ℕ} → left ≡ r ∷ rest → Going pool all left b before now
-      → back ≡ over (attribute_bytes pool r) (drop b now) → Going pool all rest (b + r.length) before (put_mid b (length now - b) now back)
+  pub one_put : {left rest : List Record} {r : Record} {b : ℕ} {before now back : List ℕ} → left ≡ r ∷ rest
+      → Going pool all left b before now → back ≡ over (attribute_bytes pool r) (drop b now)
+      → Going pool all rest (b + r.length) before (put_mid b (length now - b) now back)
   one_put {left} {rest} {r} {b} {before} {now} {back} is g one =
       let m = attribute_bytes pool r in
       let k : Kept (length pool) (r ∷ rest) = rw is at g.kept in

@@ -6,11 +6,14 @@
 ghost use Rattle.std.specs.Prelude.{◌≡◌};
 ghost use Rattle.rfc6733.specs.Header.{header_size};
 ghost use Rattle.rfc6733.specs.Search.{sought};
-ghost use Rattle.steps.specs.Steps.{step_at, find_at, answer_of};
+ghost use Rattle.refusal.specs.Answer.{answer_of};
+ghost use Rattle.steps.specs.Steps.{step_at, find_at};
 ghost use Rattle.reader.specs.Reading.{step_of, find_of, Went};
 
-use header::{Header, Parsed};
-use steps::{Found, Step, Stepped};
+use header::Header;
+use record::outline::Outline;
+use refusal::Refusal;
+use steps::{Step, Stepped};
 
 /// The payload, with the message's header still before it, so that places count from the message's first byte; and where in it the
 /// next AVP stands.
@@ -74,14 +77,9 @@ pub fn next(message: &[u8], place: usize) -> Stepped
 }
 
 /// The first AVP with this code at the top level of the message at the front of `input`. All of the message must be there.
-pub fn find(input: &[u8], code: u32) -> Found
+pub fn find(input: &[u8], code: u32) -> Result<Option<Outline>, Refusal>
     ensures { answer_of result ≡ sought code input.now }
 {
-    match Header::parse(input) {
-        Parsed::Accepted { header, errors: _ } => {
-            let length = header.length as usize;
-            ask(&input[..length], code).answer()
-        }
-        Parsed::Refused(why) => Found::Refused(why),
-    }
+    let length = Header::parse(input)?.header.length as usize;
+    ask(&input[..length], code).answer()
 }

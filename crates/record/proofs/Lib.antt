@@ -1,7 +1,5 @@
 pub mod Layouts
 pub mod Outlines
-pub mod Absent
-pub mod Copied
 pub mod Fields
 pub mod Room
 pub mod Found
@@ -14,7 +12,7 @@ pub mod Chosen
 pub mod Breaks
 pub mod Back
 pub mod Steps
-pub mod AnswerOf
 pub mod Standing
 pub mod Damage
 pub mod EachRecord
+pub mod Chunks

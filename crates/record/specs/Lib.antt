@@ -10,5 +10,4 @@ pub mod Counts
 pub mod Refusals
 pub mod Store
 pub mod Broken
-pub mod Written
 pub mod Damage

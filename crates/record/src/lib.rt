@@ -1,19 +1,18 @@
-// The record of an AVP, or of an attribute of RADIUS, and its 36 bytes (docs/FORMAT.md, 6): written to a store and read from a table.
-// This crate knows the layout, and nothing of how a record comes about.
+// The record of an AVP, or of an attribute of RADIUS, and its 36 bytes (docs/FORMAT.md, 6): written to a store and read
+// from a table. This crate knows the layout, and nothing of how a record comes about.
 #![tactic(auto)]
 
 pub mod kinds;
 pub mod outline;
-pub mod written;
 
-ghost use Rattle.std.specs.Prelude.{◌≡◌, ◌++◌, ◌+◌, ◌≤◌, ◌<◌, length, take, drop, replicate, leb};
+ghost use Rattle.std.specs.Prelude.{◌≡◌, ◌≤◌, length, take, drop, replicate, leb};
 ghost use Rattle.std.proofs.lemmas.List.Edits.{sets};
-ghost use Rattle.octets.specs.Octets.{be, octets, pack, over};
+ghost use Rattle.octets.specs.Octets.{pack};
 ghost use Rattle.record.specs.Record.{record_size, layout, record_at};
 ghost use Rattle.record.specs.Table.{entry_at};
 ghost use Rattle.record.specs.Store.{put, put_found, put_place_and_parent};
 
-#[derive(Clone, Copy)]
+#[derive(Clone, Copy, Debug, PartialEq, Eq)]
 pub struct Record {
     pub code: u32,
     pub flags: u8,
@@ -34,59 +33,11 @@ pub struct Record {
     pub parent: u32,
 }
 
-fn put_u8(store: &mut [u8], at: usize, v: u8)
-    requires { at < length store.old }
-    ensures { store.new ≡ sets store.old at (octets 1 v) }
-{
-    store[at] = v;
-}
-
-fn put_u32(store: &mut [u8], at: usize, v: u32)
-    requires { at + 4 ≤ length store.old }
-    ensures { store.new ≡ sets store.old at (octets 4 v) }
-{
-    word::put_u32(&mut store[at..at + 4], v);
-}
-
-fn put_u64(store: &mut [u8], at: usize, v: u64)
-    requires { at + 8 ≤ length store.old }
-    ensures { store.new ≡ sets store.old at (octets 8 v) }
-{
-    word::put_u64(&mut store[at..at + 8], v);
-}
-
-// A byte and then three bytes, as one number, since that is one store.
-fn put_u8_u24(store: &mut [u8], at: usize, high: u8, low: u32)
-    requires { at + 4 ≤ length store.old }
-    ensures { store.new ≡ sets store.old at (octets 1 high ++ octets 3 low) }
-{
-    put_u32(store, at, high as u32 * 0x100_0000 + low % 0x100_0000);
-}
-
-// Three bytes and then a byte, in the same way.
-fn put_u24_u8(store: &mut [u8], at: usize, high: u32, low: u8)
-    requires { at + 4 ≤ length store.old }
-    ensures { store.new ≡ sets store.old at (octets 3 high ++ octets 1 low) }
-{
-    put_u32(store, at, high % 0x100_0000 * 0x100 + low as u32);
-}
-
-fn word(table: &[u8], at: usize) -> u32
-    requires { at + 4 ≤ length table.now }
-    ensures { result ≡ be 4 table.now at }
-{
-    word::be_u32(&table[at..at + 4])
-}
-
 /// Sets every byte to zero.
 pub fn clear(store: &mut [u8])
     ensures { store.new ≡ replicate (length store.old) 0 }
 {
-    let mut i: usize = 0;
-    while i < store.len() {
-        store[i] = 0;
-        i += 1;
-    }
+    store.fill(0);
 }
 
 impl Record {
@@ -103,27 +54,30 @@ impl Record {
         requires { record_size ≤ length store.old }
         ensures { store.new ≡ sets store.old 0 (pack (take 4 (layout self))) }
     {
-        put_u32(store, 0, self.code);
-        put_u8_u24(store, 4, self.flags, self.length);
-        put_u32(store, 8, self.vendor);
+        word::put_u32(&mut store[0..4], self.code);
+        word::put_u8_u24(&mut store[4..8], self.flags, self.length);
+        word::put_u32(&mut store[8..12], self.vendor);
     }
 
-    // What was found of its data; byte 23 is zero.
+    // What was found of its data. The padding's three bytes and byte 23, which is zero, are put as one number, since that
+    // is one store.
     fn put_data(self, store: &mut [u8])
         requires { record_size ≤ length store.old }
         ensures { store.new ≡ sets store.old 12 (pack (drop 4 (layout self))) }
     {
-        put_u32(store, 12, self.place);
-        put_u8(store, 16, self.depth);
-        put_u8(store, 17, self.kind);
-        put_u8(store, 18, self.errors);
-        put_u8(store, 19, self.padding);
-        put_u24_u8(store, 20, self.pads, 0);
-        put_u64(store, 24, self.value);
-        put_u32(store, 32, self.parent);
+        word::put_u32(&mut store[12..16], self.place);
+        store[16] = self.depth;
+        store[17] = self.kind;
+        store[18] = self.errors;
+        store[19] = self.padding;
+        word::put_u32(&mut store[20..24], self.pads % 0x100_0000 * 0x100);
+        word::put_u64(&mut store[24..32], self.value);
+        word::put_u32(&mut store[32..36], self.parent);
     }
 
-    /// Puts the record at the front of a store, if there is room. Of a length or padding over 24 bits it puts the lowest 24.
+    /// Puts the record at the front of a store, if there is room. Of a length or padding over 24 bits it puts the lowest
+    /// 24.
+    #[tactic(auto, using(crate::proofs::Layouts::record_length), unfolding(octets::specs::Octets::put_all))]
     pub fn put(self, store: &mut [u8]) -> bool
         ensures is { result ≡ leb record_size (length store.old) }
         ensures store { store.new ≡ put self store.old }
@@ -136,40 +90,30 @@ impl Record {
         true
     }
 
-    /// Puts what was found of an AVP's data into the record at the front of a store, if there is room for one: its kind, its error flags
-    /// and its value.
+    /// Puts what was found of an AVP's data into the record at the front of a store, if there is room for one: its kind,
+    /// its error flags and its value.
+    #[tactic(auto, unfolding(crate::specs::Store::put_found))]
     pub fn put_found(store: &mut [u8], kind: u8, errors: u8, value: u64)
         ensures { store.new ≡ put_found kind errors value store.old }
     {
         if store.len() < Record::SIZE {
             return;
         }
-        put_u8(store, 17, kind);
-        put_u8(store, 18, errors);
-        put_u64(store, 24, value);
+        store[17] = kind;
+        store[18] = errors;
+        word::put_u64(&mut store[24..32], value);
     }
 
     /// Puts another place and another parent into the record at the front of a table, if there is one.
+    #[tactic(auto, unfolding(crate::specs::Store::put_place_and_parent))]
     pub fn put_place_and_parent(table: &mut [u8], place: u32, parent: u32)
         ensures { table.new ≡ put_place_and_parent place parent table.old }
     {
         if table.len() < Record::SIZE {
             return;
         }
-        put_u32(table, 12, place);
-        put_u32(table, 32, parent);
-    }
-
-    // A table that is shorter than a record, with 0 for each byte that is absent.
-    fn padded(table: &[u8]) -> [u8; Self::SIZE]
-        requires { length table.now ≤ record_size }
-        ensures { result ≡ over table.now (replicate record_size 0) }
-    {
-        let mut bytes = [0; Self::SIZE];
-        for i in 0..table.len() {
-            bytes[i] = table[i];
-        }
-        bytes
+        word::put_u32(&mut table[12..16], place);
+        word::put_u32(&mut table[32..36], parent);
     }
 
     // Bytes 18, 23 and 24 to 31 have no part in it.
@@ -177,21 +121,21 @@ impl Record {
         requires { record_size ≤ length table.now }
         ensures { result ≡ entry_at table.now }
     {
-        let flags_length = word(table, 4);
-        let pads = word(table, 20);
+        let flags_length = word::be_u32(&table[4..8]);
+        let pads = word::be_u32(&table[20..24]);
         Record {
-            code: word(table, 0),
+            code: word::be_u32(&table[0..4]),
             flags: (flags_length / 0x100_0000) as u8,
             length: flags_length % 0x100_0000,
-            vendor: word(table, 8),
-            place: word(table, 12),
+            vendor: word::be_u32(&table[8..12]),
+            place: word::be_u32(&table[12..16]),
             depth: table[16],
             kind: table[17],
             errors: 0,
             padding: table[19],
             pads: pads / 0x100,
             value: 0,
-            parent: word(table, 32),
+            parent: word::be_u32(&table[32..36]),
         }
     }
 
@@ -201,7 +145,8 @@ impl Record {
         ensures { result ≡ entry_at table.now }
     {
         if table.len() < Self::SIZE {
-            return Self::fields(&Self::padded(table));
+            let bytes: [u8; Self::SIZE] = word::front(table);
+            return Self::fields(&bytes);
         }
         Self::fields(table)
     }
@@ -222,7 +167,8 @@ impl Record {
         ensures { result ≡ record_at table.now }
     {
         if table.len() < Self::SIZE {
-            return Self::all_fields(&Self::padded(table));
+            let bytes: [u8; Self::SIZE] = word::front(table);
+            return Self::all_fields(&bytes);
         }
         Self::all_fields(table)
     }

@@ -1,6 +1,7 @@
-// The outline of an AVP (docs/FORMAT.md, 6.4): its header, where its data stand, and its padding. It says nothing of what the data are.
+// The outline of an AVP (docs/FORMAT.md, 6.4): its header, where its data stand, and its padding. It says nothing of what
+// the data are.
 
-#[derive(Clone, Copy)]
+#[derive(Clone, Copy, Debug, PartialEq, Eq)]
 pub struct Outline {
     pub code: u32,
     pub flags: u8,

@@ -3,10 +3,13 @@
 #![tactic(auto)]
 
 ghost use Rattle.std.specs.Prelude.{◌≡◌};
+ghost use Rattle.refusal.specs.declared.Refusal.TheVariants.{Incomplete};
 ghost use Rattle.refusal.specs.Refusals.{number_of, amount_of};
 
+use octets::at_hand::Absent;
+
 /// Why an input, a table or a request is refused.
-#[derive(Clone, Copy)]
+#[derive(Clone, Copy, Debug, PartialEq, Eq)]
 pub enum Refusal {
     /// So many bytes more are needed.
     Incomplete(usize),
@@ -54,19 +57,20 @@ impl Refusal {
         ensures { result ≡ amount_of self }
     {
         match self {
-            Refusal::Incomplete(n) => n,
-            Refusal::NotVersion => 0,
-            Refusal::BadLength => 0,
-            Refusal::NotTiled => 0,
-            Refusal::TooDeep => 0,
-            Refusal::NoRecords(n) => n,
-            Refusal::BadDepth => 0,
-            Refusal::BadHeader => 0,
-            Refusal::BadTable(n) => n,
-            Refusal::TooLong => 0,
-            Refusal::NoRoom(n) => n,
-            Refusal::BadEdition => 0,
-            Refusal::BadExponent => 0,
+            Refusal::Incomplete(n)
+            | Refusal::NoRecords(n)
+            | Refusal::BadTable(n)
+            | Refusal::NoRoom(n) => n,
+            _ => 0,
         }
+    }
+}
+
+/// Bytes that are absent are bytes that are needed.
+impl From<Absent> for Refusal {
+    ghost from_gives = { λ absent r. r ≡ Incomplete absent.0 };
+
+    fn from(absent: Absent) -> Refusal {
+        Refusal::Incomplete(absent.0)
     }
 }

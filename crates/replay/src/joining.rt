@@ -2,10 +2,10 @@
 ghost use Rattle.std.specs.Prelude.{◌≤◌, length};
 
 use attribute::Reading;
-use diameter::{Decoded, Message};
+use diameter::Message;
 use header::Header;
 use record::Record;
-use rules::shifting::Shifted;
+use refusal::Refusal;
 use std::io;
 use std::num::wrapping_add_usize;
 
@@ -20,13 +20,13 @@ fn wide_of(b: &[u8]) -> usize
     octets::be_u64(b[0], b[1], b[2], b[3], b[4], b[5], b[6], b[7]) as usize
 }
 
-fn write_shifted(rt: &impl Print, s: Shifted) -> io::Result<()> {
+fn write_shifted(rt: &impl Print, s: Result<usize, Refusal>) -> io::Result<()> {
     match s {
-        Shifted::Accepted(records) => {
-            crate::write_refusal(rt, 0, 0)?;
+        Ok(records) => {
+            crate::write_accepted(rt)?;
             crate::write_count(rt, records)
         }
-        Shifted::Refused(why) => crate::write_refusal(rt, why.number(), why.amount()),
+        Err(why) => crate::write_refusal(rt, why),
     }
 }
 
@@ -69,8 +69,8 @@ fn join(rt: &impl Print, first: Message, second: Message, store: &mut [u8]) -> i
     let bytes = first.length - Header::SIZE;
     let table = &mut store[0..second.records * Record::SIZE];
     match rules::shifting::shift(table, bytes, first.records) {
-        Shifted::Accepted(records) => {
-            crate::write_refusal(rt, 0, 0)?;
+        Ok(records) => {
+            crate::write_accepted(rt)?;
             crate::write_counts(
                 rt,
                 first.errors | second.errors,
@@ -79,7 +79,7 @@ fn join(rt: &impl Print, first: Message, second: Message, store: &mut [u8]) -> i
                 wrapping_add_usize(bytes, second.length),
             )
         }
-        Shifted::Refused(why) => crate::write_refusal(rt, why.number(), why.amount()),
+        Err(why) => crate::write_refusal(rt, why),
     }
 }
 
@@ -97,8 +97,8 @@ fn behind(
     }
     let rest = &mut store[first.records * Record::SIZE..];
     match diameter::parse(reading, limit, input, rest) {
-        Decoded::Accepted(second) => join(rt, first, second, rest),
-        Decoded::Refused(why) => crate::write_refusal(rt, why.number(), why.amount()),
+        Ok(second) => join(rt, first, second, rest),
+        Err(why) => crate::write_refusal(rt, why),
     }
 }
 
@@ -119,7 +119,7 @@ pub(super) fn joined(
     }
     let end = crate::NUMBER + size;
     match diameter::parse(reading, limit, &input[crate::NUMBER..end], store) {
-        Decoded::Accepted(first) => behind(rt, reading, limit, first, &input[end..], store),
-        Decoded::Refused(why) => crate::write_refusal(rt, why.number(), why.amount()),
+        Ok(first) => behind(rt, reading, limit, first, &input[end..], store),
+        Err(why) => crate::write_refusal(rt, why),
     }
 }

@@ -8,16 +8,17 @@ mod packets;
 ghost use Rattle.std.specs.Prelude.{◌≡◌, ◌≤◌, length};
 
 use attribute::Reading;
-use avps::Filled;
-use diameter::Decoded;
+use avps::Counts;
+use diameter::Message;
 use header::{Header, Parsed};
 use record::Record;
 use record::outline::Outline;
-use record::written::Written;
+use refusal::Refusal;
+use std::cmp::Ordering;
 use std::io;
 use std::io::{ErrorKind, Read};
-use steps::{Found, Step};
-use unit_value::{Compared, Ordering, UnitValue};
+use steps::Step;
+use unit_value::UnitValue;
 use writer::Fields;
 
 const FRAME_SIZE: usize = 9;
@@ -51,9 +52,15 @@ fn write_count(rt: &impl Print, v: usize) -> io::Result<()> {
     write_u32(rt, (v % 0x1_0000_0000) as u32)
 }
 
-fn write_refusal(rt: &impl Print, number: u8, amount: usize) -> io::Result<()> {
-    write_u8(rt, number)?;
-    write_count(rt, amount)
+// An acceptance: number and amount are 0.
+fn write_accepted(rt: &impl Print) -> io::Result<()> {
+    write_u8(rt, 0)?;
+    write_count(rt, 0)
+}
+
+fn write_refusal(rt: &impl Print, why: Refusal) -> io::Result<()> {
+    write_u8(rt, why.number())?;
+    write_count(rt, why.amount())
 }
 
 fn write_header(rt: &impl Print, h: Header) -> io::Result<()> {
@@ -79,35 +86,35 @@ fn write_counts(
     write_count(rt, length)
 }
 
-fn write_message(rt: &impl Print, d: Decoded) -> io::Result<()> {
+fn write_message(rt: &impl Print, d: Result<Message, Refusal>) -> io::Result<()> {
     match d {
-        Decoded::Accepted(m) => {
-            write_refusal(rt, 0, 0)?;
+        Ok(m) => {
+            write_accepted(rt)?;
             write_header(rt, m.header)?;
             write_counts(rt, m.errors, m.records, m.tried, m.length)
         }
-        Decoded::Refused(why) => write_refusal(rt, why.number(), why.amount()),
+        Err(why) => write_refusal(rt, why),
     }
 }
 
 fn header_alone(rt: &impl Print, input: &[u8]) -> io::Result<()> {
     match Header::parse(input) {
-        Parsed::Accepted { header, errors } => {
-            write_refusal(rt, 0, 0)?;
+        Ok(Parsed { header, errors }) => {
+            write_accepted(rt)?;
             write_header(rt, header)?;
             write_counts(rt, errors, 0, 0, Header::SIZE)
         }
-        Parsed::Refused(why) => write_refusal(rt, why.number(), why.amount()),
+        Err(why) => write_refusal(rt, why),
     }
 }
 
-fn write_avp(rt: &impl Print, f: Filled) -> io::Result<()> {
+fn write_avp(rt: &impl Print, f: Result<Counts, Refusal>) -> io::Result<()> {
     match f {
-        Filled::Accepted(one) => {
-            write_refusal(rt, 0, 0)?;
+        Ok(one) => {
+            write_accepted(rt)?;
             write_counts(rt, one.errors, one.records, one.tried, one.length)
         }
-        Filled::Refused(why) => write_refusal(rt, why.number(), why.amount()),
+        Err(why) => write_refusal(rt, why),
     }
 }
 
@@ -155,16 +162,16 @@ fn find(rt: &impl Print, input: &[u8]) -> io::Result<()> {
         return Ok(());
     }
     match reader::find(&input[NUMBER..], number_of(input)) {
-        Found::At(o) => {
-            write_refusal(rt, 0, 0)?;
+        Ok(Some(o)) => {
+            write_accepted(rt)?;
             write_u8(rt, 1)?;
             write_outline(rt, o)
         }
-        Found::None => {
-            write_refusal(rt, 0, 0)?;
+        Ok(None) => {
+            write_accepted(rt)?;
             write_u8(rt, 0)
         }
-        Found::Refused(why) => write_refusal(rt, why.number(), why.amount()),
+        Err(why) => write_refusal(rt, why),
     }
 }
 
@@ -192,8 +199,7 @@ fn steps(rt: &impl Print, message: &[u8]) -> io::Result<()> {
     let mut place = Header::SIZE;
     for _ in 0..BUFFER_SIZE {
         let s = reader::next(message, place);
-        let found = s.found;
-        let more = write_step(rt, found)?;
+        let more = write_step(rt, s.found)?;
         place = s.place;
         write_count(rt, place)?;
         if !more {
@@ -218,13 +224,13 @@ fn fields_of(f: &[u8]) -> Fields
     }
 }
 
-fn write_written(rt: &impl Print, w: Written) -> io::Result<()> {
+fn write_written(rt: &impl Print, w: Result<usize, Refusal>) -> io::Result<()> {
     match w {
-        Written::Accepted(total) => {
-            write_refusal(rt, 0, 0)?;
+        Ok(total) => {
+            write_accepted(rt)?;
             write_count(rt, total)
         }
-        Written::Refused(why) => write_refusal(rt, why.number(), why.amount()),
+        Err(why) => write_refusal(rt, why),
     }
 }
 
@@ -268,24 +274,16 @@ fn comparison(rt: &impl Print, input: &[u8]) -> io::Result<()> {
         return Ok(());
     }
     match unit_value::compare(unit_value_of(input), unit_value_of(&input[UNIT_VALUE..])) {
-        Compared::Is(o) => {
-            write_refusal(rt, 0, 0)?;
+        Ok(o) => {
+            write_accepted(rt)?;
             write_order(rt, o)
         }
-        Compared::Refused(why) => write_refusal(rt, why.number(), why.amount()),
+        Err(why) => write_refusal(rt, why),
     }
 }
 
 fn reading_of(b: u8) -> Reading {
     if b == 0 { Reading::Sawp } else { Reading::Rfc }
-}
-
-fn lend(store: &mut [u8]) {
-    let mut i: usize = 0;
-    while i < store.len() {
-        store[i] = LENT;
-        i += 1;
-    }
 }
 
 fn answer(
@@ -294,7 +292,7 @@ fn answer(
     input: &[u8],
     store: &mut [u8],
 ) -> io::Result<()> {
-    lend(store);
+    store.fill(LENT);
     let function = frame[0];
     let reading = reading_of(frame[1]);
     let limit = frame[2] as usize;

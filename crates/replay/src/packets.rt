@@ -1,27 +1,29 @@
 // Packets of RADIUS: one that is read, and one that is written.
 ghost use Rattle.std.specs.Prelude.{◌≤◌, length};
 
-use radius::Decoded;
+use radius::{Packet, Parsed};
 use radius_writer::Fields;
+use refusal::Refusal;
 use std::io;
 
-fn write_packet(rt: &impl Print, d: Decoded) -> io::Result<()> {
+fn write_packet(rt: &impl Print, d: Result<Packet, Refusal>) -> io::Result<()> {
     match d {
-        Decoded::Accepted(p) => {
-            crate::write_refusal(rt, 0, 0)?;
+        Ok(p) => {
+            crate::write_accepted(rt)?;
             crate::write_u8(rt, p.code)?;
             crate::write_u8(rt, p.identifier)?;
             crate::write_counts(rt, p.errors, p.records, p.tried, p.length)
         }
-        Decoded::Refused(why) => crate::write_refusal(rt, why.number(), why.amount()),
+        Err(why) => crate::write_refusal(rt, why),
     }
 }
 
 // The authenticator follows in any case, since it is zero where the packet is refused.
 pub(super) fn packet(rt: &impl Print, input: &[u8], store: &mut [u8]) -> io::Result<()> {
-    let p = radius::parse(input, store);
-    let decoded = p.decoded;
-    let authenticator = p.authenticator;
+    let Parsed {
+        decoded,
+        authenticator,
+    } = radius::parse(input, store);
     write_packet(rt, decoded)?;
     rt.write_all(&authenticator)
 }

@@ -19,11 +19,11 @@ counts_of p = record { errors = p.errors; records = p.records; tried = p.tried; 
 abbrev pub refusal : Refusal → List ℕ
 refusal why = result_of (number_of why) (amount_of why) (bytes_alone 0) 0 0
 
-unfoldable pub packet_result : Answer definition.Packet → List ℕ
+abbrev pub packet_result : Answer definition.Packet → List ℕ
 packet_result (accepted p) = result_of 0 0 p.counts p.header.code p.header.identifier
 packet_result (refused why) = refusal why
 
 -- what the writer wrote: its total is the length
-unfoldable pub written_result : Answer ℕ → List ℕ
+abbrev pub written_result : Answer ℕ → List ℕ
 written_result (accepted total) = result_of 0 0 (bytes_alone total) 0 0
 written_result (refused why) = refusal why

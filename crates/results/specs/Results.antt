@@ -1,15 +1,15 @@
 -- A result as numbers: the answer's number and amount, then what an acceptance returns (docs/FORMAT.md, 7). What an
 -- answer does not return is 0.
 use Rattle.std.specs.Prelude.{ℕ, List, ◌∷◌, ℤ, pos, negsuc}
-use Rattle.std.proofs.Math.Option.{Option, none, some}
+use Rattle.std.specs.Prelude.{Option, None, Some}
 use Rattle.refusal.specs.Answer.{Refusal, Answer, accepted, refused}
 use Rattle.refusal.specs.Refusals.{number_of, amount_of}
 use Rattle.rfc6733.specs.Header.{Header, header_layout}
 use Rattle.rfc6733.specs.Decoder.{Message}
 use Rattle.record.specs.Counts.{Counts}
 use Rattle.record.specs.Outline.{Outline, outline_numbers}
-use Rattle.unit_value.specs.declared.Ordering.{Ordering}
-use Rattle.unit_value.specs.declared.Ordering.TheVariants.{Less, Equal, Greater}
+use Rattle.std.specs.declared.cmp.Ordering.{Ordering}
+use Rattle.std.specs.declared.cmp.Ordering.TheVariants.{Less, Equal, Greater}
 
 -- number, amount; error flags, records, tried, length; the header's fields
 abbrev pub result_of : ℕ → ℕ → Counts → Header → List ℕ
@@ -30,22 +30,22 @@ abbrev pub refusal : Refusal → List ℕ
 refusal why = result_of (number_of why) (amount_of why) (bytes_alone 0) no_header
 
 -- a message, or the header alone
-unfoldable pub message_result : Answer Message → List ℕ
+abbrev pub message_result : Answer Message → List ℕ
 message_result (accepted m) = result_of 0 0 m.counts m.header
 message_result (refused why) = refusal why
 
 -- one AVP alone
-unfoldable pub avp_result : Answer Counts → List ℕ
+abbrev pub avp_result : Answer Counts → List ℕ
 avp_result (accepted c) = result_of 0 0 c no_header
 avp_result (refused why) = refusal why
 
 -- what the writer wrote: its total is the length
-unfoldable pub written_result : Answer ℕ → List ℕ
+abbrev pub written_result : Answer ℕ → List ℕ
 written_result (accepted total) = result_of 0 0 (bytes_alone total) no_header
 written_result (refused why) = refusal why
 
 -- a table that was moved: its records
-unfoldable pub shifted_result : Answer ℕ → List ℕ
+abbrev pub shifted_result : Answer ℕ → List ℕ
 shifted_result (accepted records) = result_of 0 0 (records_alone records) no_header
 shifted_result (refused why) = refusal why
 
@@ -58,14 +58,14 @@ outline_result n a found o = n ∷ a ∷ found ∷ outline_numbers o
 abbrev pub no_outline : Outline
 no_outline = record { code = 0; flags = 0; length = 0; vendor = 0; place = 0; padding = 0; pads = 0 }
 
-unfoldable pub found_result : Answer (Option Outline) → List ℕ
-found_result (accepted (some o)) = outline_result 0 0 1 o
-found_result (accepted none) = outline_result 0 0 0 no_outline
+abbrev pub found_result : Answer (Option Outline) → List ℕ
+found_result (accepted (Some o)) = outline_result 0 0 1 o
+found_result (accepted None) = outline_result 0 0 0 no_outline
 found_result (refused why) = outline_result (number_of why) (amount_of why) 0 no_outline
 
 -- ---- a comparison
 
-unfoldable pub sign_of : Ordering → ℤ
+abbrev pub sign_of : Ordering → ℤ
 sign_of Less = negsuc 0
 sign_of Equal = pos 0
 sign_of Greater = pos 1

@@ -1,29 +1,24 @@
 // An answer as numbers, for callers of other languages: its number and amount, then what an acceptance returns. What an answer does not
 // return is 0. This crate knows how the numbers stand, and nothing of how an answer comes about.
-#![tactic(auto)]
+#![tactic(auto, unfolding(header::specs::Parsed::header_as, avps::specs::Answers::counts_as, diameter::specs::Answers::message_as))]
 
 pub mod packets;
 
 ghost use Rattle.std.specs.Prelude.{◌≡◌};
+ghost use Rattle.refusal.specs.Answer.{answer_of};
 ghost use Rattle.header.specs.Parsed as header;
 ghost use Rattle.header.specs.Parsed.{header_as};
 ghost use Rattle.avps.specs.Answers as avps;
 ghost use Rattle.avps.specs.Answers.{counts_as};
-ghost use Rattle.diameter.specs.Answers.{answer_of};
-ghost use Rattle.steps.specs.Steps as steps;
-ghost use Rattle.record.specs.Written as written;
-ghost use Rattle.rules.specs.Shifting as shifting;
+ghost use Rattle.diameter.specs.Answers as diameter;
 ghost use Rattle.results.specs.Results.{result_of, refusal, message_result, avp_result, written_result, shifted_result, outline_result, found_result, sign_of};
 
-use avps::{Counts, Filled};
-use diameter::Decoded;
+use avps::Counts;
+use diameter::Message;
 use header::{Header, Parsed};
 use record::outline::Outline;
-use record::written::Written;
 use refusal::Refusal;
-use rules::shifting::Shifted;
-use steps::Found;
-use unit_value::Ordering;
+use std::cmp::Ordering;
 
 /// How many numbers a result has. include/tandrekily.h names them.
 pub const RESULT: usize = 13;
@@ -85,85 +80,79 @@ fn refused(why: Refusal) -> [u64; RESULT]
 }
 
 /// What decoding a message answers.
-pub fn of_message(d: Decoded) -> [u64; RESULT]
-    ensures { result ≡ message_result (answer_of d) }
+pub fn of_message(d: Result<Message, Refusal>) -> [u64; RESULT]
+    ensures { result ≡ message_result (diameter.answer_of d) }
 {
     match d {
-        Decoded::Accepted(m) => {
-            let header = m.header;
+        Ok(m) => {
             let counts = Counts {
                 errors: m.errors,
                 records: m.records,
                 tried: m.tried,
                 length: m.length,
             };
-            lay(0, 0, counts, header)
+            lay(0, 0, counts, m.header)
         }
-        Decoded::Refused(why) => refused(why),
+        Err(why) => refused(why),
     }
 }
 
 /// What reading the header alone answers.
-pub fn of_header(p: Parsed) -> [u64; RESULT]
+pub fn of_header(p: Result<Parsed, Refusal>) -> [u64; RESULT]
     ensures { result ≡ message_result (header.answer_of p) }
 {
     match p {
-        Parsed::Accepted { header, errors } => {
+        Ok(Parsed { header, errors }) => {
             let counts = Counts {
                 errors,
-                records: 0,
-                tried: 0,
                 length: Header::SIZE,
+                ..NO_COUNTS
             };
             lay(0, 0, counts, header)
         }
-        Parsed::Refused(why) => refused(why),
+        Err(why) => refused(why),
     }
 }
 
 /// What decoding one AVP alone answers.
-pub fn of_avp(d: Filled) -> [u64; RESULT]
+pub fn of_avp(d: Result<Counts, Refusal>) -> [u64; RESULT]
     ensures { result ≡ avp_result (avps.answer_of d) }
 {
     match d {
-        Filled::Accepted(counts) => lay(0, 0, counts, NO_HEADER),
-        Filled::Refused(why) => refused(why),
+        Ok(counts) => lay(0, 0, counts, NO_HEADER),
+        Err(why) => refused(why),
     }
 }
 
 /// What writing a message answers: its total is the length.
-pub fn of_written(w: Written) -> [u64; RESULT]
-    ensures { result ≡ written_result (written.answer_of w) }
+pub fn of_written(w: Result<usize, Refusal>) -> [u64; RESULT]
+    ensures { result ≡ written_result (answer_of w) }
 {
     match w {
-        Written::Accepted(total) => {
+        Ok(total) => {
             let counts = Counts {
-                errors: 0,
-                records: 0,
-                tried: 0,
                 length: total,
+                ..NO_COUNTS
             };
             lay(0, 0, counts, NO_HEADER)
         }
-        Written::Refused(why) => refused(why),
+        Err(why) => refused(why),
     }
 }
 
 /// What moving a table answers: its records.
-pub fn of_shifted(s: Shifted) -> [u64; RESULT]
-    ensures { result ≡ shifted_result (shifting.answer_of s) }
+pub fn of_shifted(s: Result<usize, Refusal>) -> [u64; RESULT]
+    ensures { result ≡ shifted_result (answer_of s) }
 {
     match s {
-        Shifted::Accepted(records) => {
+        Ok(records) => {
             let counts = Counts {
-                errors: 0,
                 records,
-                tried: 0,
-                length: 0,
+                ..NO_COUNTS
             };
             lay(0, 0, counts, NO_HEADER)
         }
-        Shifted::Refused(why) => refused(why),
+        Err(why) => refused(why),
     }
 }
 
@@ -185,13 +174,13 @@ fn lay_outline(number: u64, amount: usize, found: u64, o: Outline) -> [u64; OUTL
 }
 
 /// What a search or a step answers.
-pub fn of_found(f: Found) -> [u64; OUTLINE]
-    ensures { result ≡ found_result (steps.answer_of f) }
+pub fn of_found(f: Result<Option<Outline>, Refusal>) -> [u64; OUTLINE]
+    ensures { result ≡ found_result (answer_of f) }
 {
     match f {
-        Found::At(o) => lay_outline(0, 0, 1, o),
-        Found::None => lay_outline(0, 0, 0, NO_OUTLINE),
-        Found::Refused(why) => lay_outline(why.number() as u64, why.amount(), 0, NO_OUTLINE),
+        Ok(Some(o)) => lay_outline(0, 0, 1, o),
+        Ok(None) => lay_outline(0, 0, 0, NO_OUTLINE),
+        Err(why) => lay_outline(why.number() as u64, why.amount(), 0, NO_OUTLINE),
     }
 }
 
@@ -199,9 +188,5 @@ pub fn of_found(f: Found) -> [u64; OUTLINE]
 pub fn sign_of(o: Ordering) -> i32
     ensures { result ≡ sign_of o }
 {
-    match o {
-        Ordering::Less => -1,
-        Ordering::Equal => 0,
-        Ordering::Greater => 1,
-    }
+    o as i32
 }

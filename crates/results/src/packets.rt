@@ -1,10 +1,9 @@
 // The answers of RADIUS as numbers.
 ghost use Rattle.std.specs.Prelude.{◌≡◌};
-ghost use Rattle.record.specs.Written.{answer_of};
+ghost use Rattle.refusal.specs.Answer.{answer_of};
 ghost use Rattle.results.specs.Packets.{result_of, counts_of, refusal, written_result};
 
 use radius::Packet;
-use record::written::Written;
 use refusal::Refusal;
 
 /// How many numbers a packet's result has. include/tandrekily.h names them.
@@ -43,21 +42,17 @@ pub fn refused(why: Refusal) -> [u64; RESULT]
 }
 
 /// What writing a packet answers: its total is the length.
-pub fn of_written(w: Written) -> [u64; RESULT]
+pub fn of_written(w: Result<usize, Refusal>) -> [u64; RESULT]
     ensures { result ≡ written_result (answer_of w) }
 {
     match w {
-        Written::Accepted(total) => {
+        Ok(total) => {
             let written = Packet {
-                code: 0,
-                identifier: 0,
-                errors: 0,
-                records: 0,
-                tried: 0,
                 length: total,
+                ..NO_PACKET
             };
             lay(0, 0, written)
         }
-        Written::Refused(why) => refused(why),
+        Err(why) => refused(why),
     }
 }

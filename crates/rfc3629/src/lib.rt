@@ -1,5 +1,6 @@
-// The byte ranges of RFC 3629, section 4, in their order, each line beside the RFC's own: is it a character of so many bytes?
-// Tests are joined by `&` and `|`, which do not branch. This crate knows one character, and nothing of the text that it stands in.
+// The byte ranges of RFC 3629, section 4, in their order, each line beside the RFC's own: is it a character of so many
+// bytes? Tests are joined by `&` and `|`, which do not branch. This crate knows one character, and nothing of the text
+// that it stands in.
 #![tactic(auto)]
 
 ghost use Rattle.std.specs.Prelude.{◌≡◌, [], ◌∷◌};

@@ -2,7 +2,8 @@
 -- and no such record stands before it.
 use Prim.Native.Nat.{ℕ}
 use mathlib.Core.Path.{◌≡◌, refl, sym, ap}
-use mathlib.Core.Option.{none, some, none-ne-some, some-injective}
+use Rattle.std.specs.Prelude.{None, Some}
+use Rattle.std.proofs.lemmas.Option.{none-some, same_Some}
 use mathlib.Core.Logic.{inl, inr}
 use mathlib.Core.List.{List, [], ◌∷◌, ◌++◌, map}
 use lib.Dec.{eqb}
@@ -25,7 +26,7 @@ pub record FirstRecord (code : ℕ) (rs : List Record) (o : Outline) : Type 0 wh
   pub outline_is : o ≡ outline_of it
   pub depth_one : it.depth ≡ 1
   pub has_code : it.code ≡ code
-  pub none_before : first_with code (tops before) ≡ none
+  pub none_before : first_with code (tops before) ≡ None
 
 module _ (code : ℕ) (o : Outline) where
   -- a record that is passed
@@ -43,8 +44,8 @@ module _ (code : ℕ) (o : Outline) where
         none_before = rw (same f.before) f.none_before;
       }
 
-  pub first_record : (rs : List Record) → first_with code (tops rs) ≡ some o → FirstRecord code rs o
-  first_record [] e = absurd (none-ne-some o e)
+  pub first_record : (rs : List Record) → first_with code (tops rs) ≡ Some o → FirstRecord code rs o
+  first_record [] e = absurd (none-some o e)
   first_record (r ∷ rs) e =
       elim (decide (eqb r.depth 1)) [
         | inr d ↦ passed_by r rs (λ bs. rw d) (first_record rs (rw d at e))
@@ -57,7 +58,7 @@ module _ (code : ℕ) (o : Outline) where
                     it = r;
                     behind = rs;
                     table_is = refl;
-                    outline_is = sym (some-injective (outline_of r) o (rw (d, c) at e));
+                    outline_is = sym (same_Some (outline_of r) o (rw (d, c) at e));
                     depth_one = eqb-true r.depth 1 d;
                     has_code = eqb-true r.code code c;
                     none_before = refl;

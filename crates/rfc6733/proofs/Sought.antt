@@ -3,7 +3,7 @@
 use Prim.Native.Nat.{ℕ}
 use mathlib.Core.Path.{◌≡◌, refl, sym, ap, ◌∙◌}
 use mathlib.Core.Bool.{Bool, true, false, not, ◌&&◌}
-use mathlib.Core.Option.{Option, none, some}
+use Rattle.std.specs.Prelude.{Option, None, Some}
 use mathlib.Core.Logic.{inl, inr}
 use mathlib.Core.List.{List, [], ◌∷◌, ◌++◌, map}
 use Rattle.octets.specs.Run.{tree, tiles}
@@ -31,8 +31,8 @@ abbrev pub stuck : Option Outline → Bool → List Test
 stuck found tiled = refuse (is_none found && not tiled) NotTiled ∷ []
 
 stuck_tiled : (x : Option Outline) (b : Bool) → b ≡ true → answer (stuck x b) x ≡ accepted x
-stuck_tiled none b e = rw e
-stuck_tiled (some o) b e = refl
+stuck_tiled None b e = rw e
+stuck_tiled (Some o) b e = refl
 
 -- where it refuses, the payload does not tile
 pub record Failing (tiled : Bool) (why : Refusal) : Type 0 where
@@ -40,18 +40,18 @@ pub record Failing (tiled : Bool) (why : Refusal) : Type 0 where
   pub is : why ≡ NotTiled
 
 stuck_refused : (x : Option Outline) (b : Bool) (why : Refusal) → answer (stuck x b) x ≡ refused why → Failing b why
-stuck_refused none false why e = record { fails = refl; is = cc }
-stuck_refused none true why e = absurd (not_accepted (sym e))
-stuck_refused (some o) b why e = absurd (not_accepted (sym e))
+stuck_refused None false why e = record { fails = refl; is = cc }
+stuck_refused None true why e = absurd (not_accepted (sym e))
+stuck_refused (Some o) b why e = absurd (not_accepted (sym e))
 
 -- what is found of a payload that does not tile
 abbrev pub before_failing : Option Outline → Answer (Option Outline)
-before_failing none = refused NotTiled
-before_failing (some o) = accepted (some o)
+before_failing None = refused NotTiled
+before_failing (Some o) = accepted (Some o)
 
 stuck_failing : (x : Option Outline) (b : Bool) → b ≡ false → answer (stuck x b) x ≡ before_failing x
-stuck_failing none b e = rw e
-stuck_failing (some o) b e = refl
+stuck_failing None b e = rw e
+stuck_failing (Some o) b e = refl
 
 -- ---- NotTiled is said by one test alone
 

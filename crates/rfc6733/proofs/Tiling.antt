@@ -1,10 +1,13 @@
 -- Whether AVPs tile does not depend on which of them are entered; and `tiling` step by step.
 use Prim.Native.Nat.{ℕ, ◌<◌}
-use mathlib.Core.Path.{◌≡◌}
+use mathlib.Core.Path.{◌≡◌, sym, ◌∙◌}
 use mathlib.Core.Bool.{true, false}
 use mathlib.Core.Logic.{inl, inr}
-use mathlib.Core.List.{List, []}
+use mathlib.Core.List.{List, [], ◌∷◌}
+use native.Mathlib.Omega.{arith}
 use lib.ListN.{length}
+use lib.Dec.{eqb}
+use borrow.Author.Tests.{ne_eqb}
 use Rattle.octets.specs.Run.{item, after, tree, tiles}
 use Rattle.octets.proofs.Runs.{tree_none, tree_step, tiles_node, tiles_none, tiles_broken, tiles_more, by_run}
 use Rattle.rfc6733.specs.Avp.{complete}
@@ -33,3 +36,8 @@ tiling_broken = tiles_broken unentered (sound (λ a. false))
 pub tiling_more : (s : List ℕ) → complete s ≡ true → tiling s ≡ tiling (after unentered s)
 unfolding tiling
 tiling_more = tiles_more unentered (sound (λ a. false))
+
+-- where no AVP is complete at the front, what is left tiles only if it is nothing
+pub tiling_stuck : (s : List ℕ) → complete s ≡ false → tiling s ≡ eqb (length s) 0
+tiling_stuck [] broken = tiling_none
+tiling_stuck (b ∷ bs) broken = tiling_broken (b ∷ bs) (omega arith) broken ∙ sym (ne_eqb (length (b ∷ bs)) 0 (λ e. omega arith))

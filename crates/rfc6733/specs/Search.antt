@@ -1,6 +1,6 @@
 -- The first AVP of a message with a given code, where no group is entered (docs/FORMAT.md, 7.7).
 use Rattle.std.specs.Prelude.{ℕ, ◌+◌, Bool, true, false, cond, not, ◌&&◌, List, [], ◌∷◌, ◌++◌, length, eqb}
-use Rattle.std.proofs.Math.Option.{Option, none, some}
+use Rattle.std.specs.Prelude.{Option, None, Some}
 use Rattle.octets.specs.Run.{Tree, done, broken, plain, group, tree, tiles}
 use Rattle.refusal.specs.Answer.{Answer, refuse, answer}
 use Rattle.refusal.specs.declared.Refusal.TheVariants.{NotTiled}
@@ -32,12 +32,12 @@ outlines place (group a inner rest) = outline place a ∷ outlines (place + leng
 
 -- the first of them with a code
 abbrev pub first_with : ℕ → List Outline → Option Outline
-first_with code [] = none
-first_with code (o ∷ os) = cond (eqb o.code code) (some o) (first_with code os)
+first_with code [] = None
+first_with code (o ∷ os) = cond (eqb o.code code) (Some o) (first_with code os)
 
 abbrev pub is_none : Option Outline → Bool
-is_none none = true
-is_none (some o) = false
+is_none None = true
+is_none (Some o) = false
 
 -- by the code and the input: an AVP or none, refused as the header is, and where none stands before the failing place
 unfoldable pub sought : ℕ → List ℕ → Answer (Option Outline)

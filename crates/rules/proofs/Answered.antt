@@ -8,26 +8,29 @@ use lib.Dec.{ltb}
 use lib.ListN.{length, drop, length-drop, drop_of_length-le}
 use borrow.Author.Tests.{ltb-true, ltb-false, lt-ltb, le-ltb}
 use Rattle.record.specs.Record.{Record}
+use Rattle.record.proofs.Tables.{table_length}
 use Rattle.rfc6733.specs.Writer.{keepers}
 use Rattle.round_trip.proofs.Rules.{keepers_most}
-use Rattle.rules.specs.declared.Checked.{Checked}
-use Rattle.rules.specs.declared.Checked.TheVariants.{Bad, Good}
-use Rattle.rules.specs.Checking.{own_sizes, too_many, checked_of, Walked, Ended, BadAt}
+use Rattle.std.specs.Prelude.{Result, Ok, Err}
+use Rattle.rules.specs.declared.BadRecord.{BadRecord}
+use Rattle.rules.specs.declared.Run.{Run}
+use Rattle.record.specs.Parents.{top_level}
+use Rattle.rules.specs.Checking.{own_sizes, too_many, checked_of, Walked, Ended, BadAt, Checks}
 use Rattle.rules.proofs.Checks.{no_depth}
 
 module _ (n : ℕ) (rs : List Record) where
-  first_bad : (i : ℕ) → keepers [] 1 n rs ≡ i → i < length rs → Bad i ≡ checked_of n rs
+  first_bad : (i : ℕ) → keepers [] 1 n rs ≡ i → i < length rs → Err (record { 0 = i }) ≡ checked_of n rs
   unfolding checked_of
   first_bad i e h = rw (e, lt-ltb i (length rs) h) refl
 
-  pub is_bad : (i : ℕ) → BadAt n 1 [] 0 rs i → Bad i ≡ checked_of n rs
+  is_bad : (i : ℕ) → BadAt n 1 [] 0 rs i → Err (record { 0 = i }) ≡ checked_of n rs
   is_bad i b = first_bad i (omega (arith, b.kept_is)) b.some
 
   -- ---- the run of the top level came to an index
 
   module _ (i size : ℕ) (w : Walked n 1 [] 0 rs i size) where
     -- before a record of depth 0, which no run has
-    pub above : i < length rs → Ended 1 (drop i rs) → Bad i ≡ checked_of n rs
+    above : i < length rs → Ended 1 (drop i rs) → Err (record { 0 = i }) ≡ checked_of n rs
     above h end =
         let none = none_kept (drop i rs) refl (omega (arith, length-drop i rs)) in
         first_bad i (omega (arith, w.kept_is, none)) h
@@ -37,13 +40,32 @@ module _ (n : ℕ) (rs : List Record) where
         none_kept [] e some = absurd (omega arith)
         none_kept (r ∷ ts) e some = rw (e, no_depth w.allowed n r (rw e at end)) refl
 
-    pub all : length rs ≤ i → Good size ≡ checked_of n rs
+    all : length rs ≤ i → Ok size ≡ checked_of n rs
     unfolding checked_of
     all h =
         let none = drop_of_length-le rs {i = i} h in
         let kept : keepers [] 1 n rs ≡ i = omega (arith, w.kept_is, ap (keepers w.passed w.allowed n) none) in
         let bytes : own_sizes rs ≡ w.bytes = omega (arith, w.bytes_are, ap own_sizes none) in
         rw (kept, le-ltb i (length rs) h, bytes, w.size_is) refl
+
+  -- ---- what is said of the run of the top level, as an answer
+
+  pub answers_bad : (bad : BadRecord) → Checks n 0 1 top_level rs (Err bad) → Err bad ≡ checked_of n rs
+  unfolding Checks
+  answers_bad bad h = is_bad bad.0 (h [] refl refl)
+
+  pub answers_above : (run : Run) → Checks n 0 1 top_level rs (Ok run) → run.index < length rs
+      → Err (record { 0 = run.index }) ≡ checked_of n rs
+  unfolding Checks
+  answers_above run h less = let e = h.2 [] refl refl in above run.index run.size e.0 less e.1
+
+  pub answers_size : (run : Run) → Checks n 0 1 top_level rs (Ok run) → length rs ≤ run.index
+      → Ok run.size ≡ checked_of n rs
+  unfolding Checks
+  answers_size run h more = all run.index run.size (h.2 [] refl refl).0 more
+
+-- those three, and how long a table's list is
+pub ruleset answers = (answers_bad, answers_above, answers_size, table_length)
 
 -- ---- what an answer says
 
@@ -56,24 +78,25 @@ pub record Takes (n : ℕ) (rs : List Record) (size : ℕ) : Type 0 where
   pub size_is : size ≡ min (own_sizes rs) too_many
 
 module _ (n : ℕ) (rs : List Record) where
-  abbrev answer : Bool → Checked
-  answer b = cond b (Bad (keepers [] 1 n rs)) (Good (min (own_sizes rs) too_many))
+  abbrev answer : Bool → Result ℕ BadRecord
+  answer b = cond b (Err (record { 0 = keepers [] 1 n rs })) (Ok (min (own_sizes rs) too_many))
 
-  pub was_bad : (i : ℕ) → Bad i ≡ checked_of n rs → Refuses n rs i
+  pub was_bad : (i : ℕ) → Err (record { 0 = i }) ≡ checked_of n rs → Refuses n rs i
   unfolding checked_of
   was_bad i e = by (ltb (keepers [] 1 n rs) (length rs)) refl e
     where
-      by : (b : Bool) → ltb (keepers [] 1 n rs) (length rs) ≡ b → Bad i ≡ answer b → Refuses n rs i
+      by : (b : Bool) → ltb (keepers [] 1 n rs) (length rs) ≡ b → Err (record { 0 = i }) ≡ answer b → Refuses n rs i
       by true x e =
-          let k : i ≡ keepers [] 1 n rs = cc in
+          let same : ◌≡◌ {A = BadRecord} (record { 0 = i }) (record { 0 = keepers [] 1 n rs }) = cc in
+          let k : i ≡ keepers [] 1 n rs = ap (λ (bad : BadRecord). bad.0) same in
           record { kept_is = k; some = omega (arith, ltb-true (keepers [] 1 n rs) (length rs) x) }
       by false x e = let z : ◌≡◌ {A = ℕ} 0 1 = cc in absurd (omega arith)
 
-  pub was_good : (size : ℕ) → Good size ≡ checked_of n rs → Takes n rs size
+  pub was_good : (size : ℕ) → Ok size ≡ checked_of n rs → Takes n rs size
   unfolding checked_of
   was_good size e = by (ltb (keepers [] 1 n rs) (length rs)) refl e
     where
-      by : (b : Bool) → ltb (keepers [] 1 n rs) (length rs) ≡ b → Good size ≡ answer b → Takes n rs size
+      by : (b : Bool) → ltb (keepers [] 1 n rs) (length rs) ≡ b → Ok size ≡ answer b → Takes n rs size
       by true x e = let z : ◌≡◌ {A = ℕ} 0 1 = cc in absurd (omega arith)
       by false x e =
           record {

@@ -30,7 +30,6 @@ module _ (bytes records : ℕ) where
 
   row_laid : (r : Record) → Fits r → Valued r
       → shifted_row bytes records (record_bytes r) ≡ record_bytes (shifted bytes records r)
-  unfolding shifted_row
   row_laid r f v =
       let back : record_at (record_bytes r) ≡ r = ap record_at (sym (append-nil (record_bytes r))) ∙ record_back r [] f v in
       ap (λ (x : Record). let q = shifted bytes records x in put_place_and_parent q.place q.parent (record_bytes r)) back
@@ -50,7 +49,7 @@ module _ (bytes records : ℕ) where
       )
 
   fits_laid : (r : Record) → Fits (shifted bytes records r) → fits_shifted bytes records (bare r) ≡ true
-  unfolding fits_shifted shifted bare
+  unfolding shifted bare
   fits_laid r f =
       let g = fit_at record_layout.sizes (record_layout.numbers (bare (shifted bytes records r))) f in
       let q = shifted bytes records r in

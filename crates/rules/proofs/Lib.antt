@@ -1,10 +1,9 @@
 pub mod Entries
+pub mod Chunks
 pub mod Checks
 pub mod Records
 pub mod Runs
 pub mod Answered
 pub mod Sums
-pub mod Moves
 pub mod Rows
 pub mod Laid
-pub mod AnswerOf

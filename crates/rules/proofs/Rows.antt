@@ -25,7 +25,6 @@ put_length place parent s =
 
 module _ (bytes records : ℕ) where
   row_length : (row : List ℕ) → length (shifted_row bytes records row) ≡ length row
-  unfolding shifted_row
   row_length row = put_length _ _ row
 
   pub rows_length : (n : ℕ) (s : List ℕ) → n * record_size ≤ length s
@@ -64,7 +63,7 @@ module _ (bytes records : ℕ) where
     pub next_fits : all_fit_shifted bytes records (table_of (from s i)) ≡ true
         → (fits_shifted bytes records (record_at (take (at + record_size - at) (drop at table))) ≡ true)
         × (all_fit_shifted bytes records (table_of (from s (i + 1))) ≡ true)
-    unfolding fits_shifted shifted entry_at bare
+    unfolding shifted entry_at bare
     next_fits fit =
         let h = simp tests at (rw (next_part s i there refl) at fit) in
         (rw left (simp tests h.0), h.1)

@@ -2,10 +2,11 @@
 -- a rule stops the count there. A leaf is passed alone, and a group with the run of its members, whose parent it is.
 use Prim.Native.Nat.{ℕ, ◌+◌, ◌-◌, ◌*◌, ◌/◌, ◌≤◌, ◌<◌, min}
 use mathlib.Core.Path.{◌≡◌, refl, sym, ap, subst, ◌∙◌}
-use mathlib.Core.Bool.{true, false, ◌&&◌}
+use mathlib.Core.Bool.{true, false, ◌&&◌, and-false}
 use mathlib.Core.List.{List, ◌∷◌}
 use native.Mathlib.Omega.{arith}
-use lib.ListN.{length, take, drop}
+use lib.ListN.{length, take, drop, drop_of_length-le}
+use Rattle.std.specs.Prelude.{Ok, Err}
 use borrow.Author.Tests.{eq-eqb, ne_eqb}
 use Rattle.record.specs.Kinds.{grouped}
 use Rattle.record.specs.Record.{Record, record_size}
@@ -16,19 +17,20 @@ use Rattle.record.proofs.Steps.{from}
 use Rattle.record.proofs.Tables.{table_drop}
 use Rattle.round_trip.specs.Rules.{Good}
 use Rattle.round_trip.proofs.Rules.{keeps_good, after_group, after_leaf}
-use Rattle.rules.specs.declared.Run.{Run}
 use Rattle.rules.specs.Checking.{own_size, own_sizes, too_many, Walked, Ended, BadAt, Checks}
+use Rattle.rules.specs.declared.BadRecord.{BadRecord}
+use Rattle.rules.specs.declared.Run.{Run}
 use Rattle.rules.proofs.Checks.{stepped, not_stepped}
 use Rattle.rules.proofs.Entries.{next_part}
 use Rattle.rules.proofs.Records.{is_group_lem, no_group}
 
 -- ---- what a record writes itself, by its kind
 
-pub group_size : (r : Record) → r.kind ≡ grouped → own_size r ≡ head_of r
+group_size : (r : Record) → r.kind ≡ grouped → own_size r ≡ head_of r
 unfolding own_size
 group_size r e = rw (is_group_lem r e) refl
 
-pub leaf_size : (r : Record) → (r.kind ≡ grouped → ⊥) → own_size r ≡ r.length + r.padding
+leaf_size : (r : Record) → (r.kind ≡ grouped → ⊥) → own_size r ≡ r.length + r.padding
 unfolding own_size
 leaf_size r e = rw (no_group r e) refl
 
@@ -50,18 +52,13 @@ own_parent depth passed some =
     let below : depth + 1 - 1 ≡ depth = omega arith in
     rw (ne_eqb (depth + 1) 1 (λ z. omega arith), below, eq-eqb depth depth refl) refl
 
--- what is said of a run is said of the same answer
-pub said_of : (n start depth parent : ℕ) (rs : List Record) {run other : Run} → run ≡ other
-    → Checks n start depth parent rs run → Checks n start depth parent rs other
-said_of n start depth parent rs e h = subst (λ (x : Run). Checks n start depth parent rs x) e h
-
 -- ---- a walk
 
 -- where a run ended, the next record is less deep
 ends : {depth : ℕ} {rs ts : List Record} {r : Record} → rs ≡ r ∷ ts → Ended depth rs → r.depth < depth
 ends {depth} e h = rw e at h
 
-pub none_walked : (n depth : ℕ) (earlier : List ℕ) (start : ℕ) (rs : List Record) → length earlier ≡ start
+none_walked : (n depth : ℕ) (earlier : List ℕ) (start : ℕ) (rs : List Record) → length earlier ≡ start
     → Walked n depth earlier start rs start 0
 none_walked n depth earlier start rs e =
     record {
@@ -82,40 +79,26 @@ pub record Stands (rs : List Record) (index : ℕ) (r : Record) : Type 0 where
   pub some : index < length rs
   pub here : drop index rs ≡ r ∷ drop (index + 1) rs
 
--- it belongs to a run of this depth, and keeps all rules
-pub record Keeps (n depth : ℕ) (earlier : List ℕ) (r : Record) : Type 0 where
+-- it belongs to a run of this depth and this parent, and keeps all rules
+pub record Keeps (n depth parent : ℕ) (r : Record) : Type 0 where
   pub level : r.depth ≡ depth
   pub own : keeps r.depth n r ≡ true
-  pub parent_is : r.parent ≡ parent_at earlier depth
+  pub parent_is : r.parent ≡ parent
 
 module _ {n depth : ℕ} {earlier : List ℕ} {start : ℕ} {rs : List Record} {index size : ℕ}
     (w : Walked n depth earlier start rs index size) (r : Record) (s : Stands rs index r) where
-  -- ---- it breaks a rule
-
   stops : keeps w.allowed n r && keeps_parent w.passed r ≡ false → BadAt n depth earlier start rs index
   stops e = record { kept_is = w.kept_is ∙ rw s.here (rw e (omega arith)); some = s.some }
-
-  pub too_deep : depth < r.depth → BadAt n depth earlier start rs index
-  too_deep h = stops (rw (stepped w.allowed n r (w.no_deeper r _ s.here h)) refl)
 
   own_is : r.depth ≡ depth → keeps w.allowed n r ≡ keeps r.depth n r
   own_is e = sym (not_stepped w.allowed n r (omega (arith, w.level)))
 
-  pub own_broken : r.depth ≡ depth → keeps r.depth n r ≡ false → BadAt n depth earlier start rs index
-  own_broken level e = stops (rw (own_is level ∙ e) refl)
-
   told : r.depth ≡ depth → parent_at w.passed r.depth ≡ parent_at earlier depth
   told e = rw e (w.parents_stay depth (omega arith))
 
-  pub parent_broken : r.depth ≡ depth → keeps r.depth n r ≡ true → (r.parent ≡ parent_at earlier depth → ⊥)
-      → BadAt n depth earlier start rs index
-  parent_broken level own e =
-      let other = ne_eqb r.parent (parent_at w.passed r.depth) (λ z. e (z ∙ told level)) in
-      stops (rw (own_is level ∙ own, other) refl)
-
   -- ---- it keeps them all
 
-  module _ (k : Keeps n depth earlier r) where
+  module _ (k : Keeps n depth (parent_at earlier depth) r) where
     abbrev good : Good r.depth n r
     good = keeps_good r.depth n r k.own
 
@@ -135,7 +118,7 @@ module _ {n depth : ℕ} {earlier : List ℕ} {start : ℕ} {rs : List Record} {
     stay : (d : ℕ) → d ≤ depth → parent_at (r.depth ∷ w.passed) d ≡ parent_at earlier d
     stay d h = same_parent r.depth d w.passed good.some (omega (arith, k.level)) ∙ w.parents_stay d h
 
-    pub leaf_walked : (z : ℕ) → is_group r ≡ false → z ≡ min (size + own_size r) too_many
+    leaf_walked : (z : ℕ) → is_group r ≡ false → z ≡ min (size + own_size r) too_many
         → Walked n depth earlier start rs (index + 1) z
     leaf_walked z e is =
         record {
@@ -170,7 +153,7 @@ module _ {n depth : ℕ} {earlier : List ℕ} {start : ℕ} {rs : List Record} {
           in
           h (r.depth ∷ w.passed) (omega (arith, w.counted)) parent
 
-      pub members_broken : (i : ℕ)
+      members_broken : (i : ℕ)
           → ((before : List ℕ) → length before ≡ index + 1 → parent_at before (depth + 1) ≡ index
           → BadAt n (depth + 1) before (index + 1) rs i)
           → BadAt n depth earlier start rs i
@@ -178,7 +161,7 @@ module _ {n depth : ℕ} {earlier : List ℕ} {start : ℕ} {rs : List Record} {
           let b = after_group_itself (λ before. BadAt n (depth + 1) before (index + 1) rs i) h in
           record { kept_is = omega (arith, w.kept_is, group_kept, b.kept_is); some = b.some }
 
-      pub members_walked : (i z next : ℕ)
+      members_walked : (i z next : ℕ)
           → ((before : List ℕ) → length before ≡ index + 1 → parent_at before (depth + 1) ≡ index
           → Walked n (depth + 1) before (index + 1) rs i z × Ended (depth + 1) (drop i rs))
           → next ≡ min (size + own_size r + z) too_many → Walked n depth earlier start rs i next
@@ -199,3 +182,88 @@ module _ {n depth : ℕ} {earlier : List ℕ} {start : ℕ} {rs : List Record} {
             no_deeper = λ r' ts there h. absurd (omega (arith, ends there end));
             parents_stay = λ d h. v.parents_stay d (omega arith) ∙ stay d h;
           }
+
+-- ---- a loop over a run, of which no earlier depths are known but the parent that they give
+
+pub record Passed (n start depth parent : ℕ) (rs : List Record) (index size : ℕ) : Type 0 where
+  pub onward : start ≤ index
+  pub few : size ≤ too_many
+  pub walked : (earlier : List ℕ) → length earlier ≡ start → parent_at earlier depth ≡ parent
+      → Walked n depth earlier start rs index size
+
+pub none_passed : {n start depth parent : ℕ} {rs : List Record} → Passed n start depth parent rs start 0
+none_passed =
+    record { onward = omega arith; few = omega arith; walked = λ earlier e q. none_walked _ _ earlier _ _ e }
+
+module _ {n start depth parent : ℕ} {rs : List Record} {index size : ℕ}
+    (p : Passed n start depth parent rs index size) where
+  -- it is over
+  pub ends_last : length rs ≤ index → Checks n start depth parent rs (Ok (record { index = index; size = size }))
+  unfolding Checks
+  ends_last h =
+      let none = drop_of_length-le rs {i = index} h in
+      (p.onward, p.few, λ earlier e q. (p.walked earlier e q, rw none tt))
+
+  module _ {r : Record} (s : Stands rs index r) where
+    pub ends_before : r.depth < depth → Checks n start depth parent rs (Ok (record { index = index; size = size }))
+    unfolding Checks
+    ends_before less =
+        let end : Ended depth (drop index rs) = rw s.here less in
+        (p.onward, p.few, λ earlier e q. (p.walked earlier e q, end))
+
+    -- the next record breaks a rule
+    pub bad_depth : depth < r.depth → Checks n start depth parent rs (Err (record { 0 = index }))
+    unfolding Checks
+    bad_depth h earlier e q =
+        let w = p.walked earlier e q in
+        stops w r s (rw (stepped w.allowed n r (w.no_deeper r _ s.here h)) refl)
+
+    pub bad_parent : r.depth ≡ depth → (r.parent ≡ parent → ⊥) → Checks n start depth parent rs (Err (record { 0 = index }))
+    unfolding Checks
+    bad_parent level h earlier e q =
+        let w = p.walked earlier e q in
+        let other = ne_eqb r.parent (parent_at w.passed r.depth) (λ z. h (z ∙ told w r s level ∙ q)) in
+        stops w r s (simp (other, and-false))
+
+    pub bad_itself : r.depth ≡ depth → keeps r.depth n r ≡ false → Checks n start depth parent rs (Err (record { 0 = index }))
+    unfolding Checks
+    bad_itself level own earlier e q =
+        let w = p.walked earlier e q in
+        stops w r s (rw (own_is w r s level ∙ own) refl)
+
+    -- it keeps them all
+    module _ (k : Keeps n depth parent r) where
+      kept : (earlier : List ℕ) → parent_at earlier depth ≡ parent → Keeps n depth (parent_at earlier depth) r
+      kept earlier q = rw q k
+
+      pub leaf_passed : (r.kind ≡ grouped → ⊥) → {z : ℕ} → z ≡ min (size + r.length + r.padding) too_many
+          → Passed n start depth parent rs (index + 1) z
+      leaf_passed leaf is =
+          record {
+            onward = omega (arith, p.onward);
+            few = omega (arith, is);
+            walked =
+                λ earlier e q.
+                leaf_walked (p.walked earlier e q) r s (kept earlier q) _ (no_group r leaf)
+                (omega (arith, is, leaf_size r leaf));
+          }
+
+      module _ (group : r.kind ≡ grouped) where
+        pub bad_member : (bad : BadRecord) → Checks n (index + 1) (depth + 1) index rs (Err bad)
+            → Checks n start depth parent rs (Err bad)
+        unfolding Checks
+        bad_member bad h earlier e q =
+            members_broken (p.walked earlier e q) r s (kept earlier q) (is_group_lem r group) bad.0 h
+
+        pub group_passed : (inside : Run) → Checks n (index + 1) (depth + 1) index rs (Ok inside)
+            → {z : ℕ} → z ≡ min (size + head_of r + inside.size) too_many → Passed n start depth parent rs inside.index z
+        unfolding Checks
+        group_passed inside h is =
+            record {
+              onward = omega (arith, p.onward, h.0);
+              few = omega (arith, is);
+              walked =
+                  λ earlier e q.
+                  members_walked (p.walked earlier e q) r s (kept earlier q) (is_group_lem r group) _ _ _ h.2
+                  (omega (arith, is, group_size r group));
+            }

@@ -1,12 +1,10 @@
 -- What checking a table answers, and what is said of a run of it.
-use Rattle.std.specs.Prelude.{ℕ, ◌+◌, ◌≤◌, ◌<◌, min, ◌≡◌, cond, List, [], ◌∷◌, length, drop, ltb}
+use Rattle.std.specs.Prelude.{ℕ, ◌+◌, ◌≤◌, ◌<◌, min, ◌≡◌, cond, ltb, List, [], ◌∷◌, length, drop, Result, Ok, Err}
 use Rattle.record.specs.Record.{Record}
 use Rattle.record.specs.Parents.{parent_at}
 use Rattle.rfc6733.specs.Writer.{is_group, head_of, keepers}
-use Rattle.rules.specs.declared.Checked.{Checked}
-use Rattle.rules.specs.declared.Checked.TheVariants as of_table
+use Rattle.rules.specs.declared.BadRecord.{BadRecord}
 use Rattle.rules.specs.declared.Run.{Run}
-use Rattle.rules.specs.declared.Run.TheVariants.{Bad, Ends}
 
 -- the bytes that a record writes itself: a group its header, since its members write their own; another its padded AVP
 unfoldable pub own_size : Record → ℕ
@@ -21,10 +19,10 @@ abbrev pub too_many : ℕ
 too_many = 16777216
 
 -- the first record that breaks a rule, where n bytes are there to point into; if none does, the bytes of all
-unfoldable pub checked_of : ℕ → List Record → Checked
+unfoldable pub checked_of : ℕ → List Record → Result ℕ BadRecord
 checked_of n rs =
     let kept = keepers [] 1 n rs in
-    cond (ltb kept (length rs)) (of_table.Bad kept) (of_table.Good (min (own_sizes rs) too_many))
+    cond (ltb kept (length rs)) (Err (record { 0 = kept })) (Ok (min (own_sizes rs) too_many))
 
 -- ---- a run: the records of a table from one on, down to one that is less deep
 
@@ -55,11 +53,12 @@ pub record BadAt (n depth : ℕ) (earlier : List ℕ) (from : ℕ) (rs : List Re
   pub some : index < length rs
 
 -- what is said of a run from a record on, whatever the depths before it are that give its records their parent
-unfoldable pub Checks : (n from depth parent : ℕ) → List Record → Run → Type 0
-Checks n from depth parent rs (Bad index) =
-    (earlier : List ℕ) → length earlier ≡ from → parent_at earlier depth ≡ parent → BadAt n depth earlier from rs index
-Checks n from depth parent rs (Ends index size) =
-    (from ≤ index)
-    × (size ≤ too_many)
+unfoldable pub Checks : (n from depth parent : ℕ) → List Record → Result Run BadRecord → Type 0
+Checks n from depth parent rs (Err bad) =
+    (earlier : List ℕ) → length earlier ≡ from → parent_at earlier depth ≡ parent
+    → BadAt n depth earlier from rs bad.0
+Checks n from depth parent rs (Ok run) =
+    (from ≤ run.index)
+    × (run.size ≤ too_many)
     × ((earlier : List ℕ) → length earlier ≡ from → parent_at earlier depth ≡ parent
-    → Walked n depth earlier from rs index size × Ended depth (drop index rs))
+    → Walked n depth earlier from rs run.index run.size × Ended depth (drop run.index rs))

@@ -1,20 +1,19 @@
 -- A table moved to where it stands behind another in a joined run (docs/FORMAT.md, 12): every place by the bytes and
 -- every parent by the records that stand before it. Its bytes are those of the records as the law of joining shifts
 -- them (rfc6733/specs/Joining).
-use Rattle.std.specs.Prelude.{ℕ, zero, suc, ◌*◌, ◌/◌, ◌%◌, Bool, not, ◌&&◌, List, [], ◌∷◌, ◌++◌, map, length, take, drop, eqb, leb}
+use Rattle.std.specs.Prelude.{ℕ, zero, suc, ◌*◌, ◌/◌, ◌%◌, Bool, not, ◌&&◌, eqb, leb}
+use Rattle.std.specs.Prelude.{List, [], ◌∷◌, ◌++◌, map, length, take, drop}
 use Rattle.refusal.specs.Answer.{Answer, accepted, refused, Test, refuse, answer}
 use Rattle.refusal.specs.declared.Refusal.TheVariants.{BadTable, TooLong}
 use Rattle.record.specs.Record.{Record, record_size, record_at, last_place}
 use Rattle.record.specs.Table.{table_of, all}
 use Rattle.record.specs.Store.{put_place_and_parent}
 use Rattle.rfc6733.specs.Joining.{shifted}
-use Rattle.rules.specs.declared.shifting.Shifted.{Shifted}
-use Rattle.rules.specs.declared.shifting.Shifted.TheVariants.{Accepted, Refused}
 
 -- ---- the answer
 
 -- place and parent fit their four bytes
-unfoldable pub fits_shifted : ℕ → ℕ → Record → Bool
+abbrev pub fits_shifted : ℕ → ℕ → Record → Bool
 fits_shifted bytes records r = let q = shifted bytes records r in leb q.place last_place && leb q.parent last_place
 
 abbrev pub all_fit_shifted : ℕ → ℕ → List Record → Bool
@@ -30,14 +29,10 @@ shift_refusals bytes records table =
 unfoldable pub shift_answer : ℕ → ℕ → List ℕ → Answer ℕ
 shift_answer bytes records table = answer (shift_refusals bytes records table) (length table / record_size)
 
-unfoldable pub answer_of : Shifted → Answer ℕ
-answer_of (Accepted n) = accepted n
-answer_of (Refused why) = refused why
-
 -- ---- the bytes
 
 -- of the record at the front: place and parent are those of the record that is shifted, and every other byte stays
-unfoldable pub shifted_row : ℕ → ℕ → List ℕ → List ℕ
+abbrev pub shifted_row : ℕ → ℕ → List ℕ → List ℕ
 shifted_row bytes records row =
     let r = shifted bytes records (record_at row) in put_place_and_parent r.place r.parent row
 

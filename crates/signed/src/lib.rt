@@ -1,56 +1,37 @@
-// The signed numbers behind the patterns that records keep: Integer32, Enumerated, Integer64, and a Time in Unix seconds; and a number
-// without its sign.
+// The signed numbers behind the patterns that records keep: Integer32, Enumerated, Integer64, and a Time in Unix
+// seconds; and a number without its sign.
 // This crate knows numbers alone, and nothing of bytes.
-#![tactic(auto)]
+#![tactic(auto, unfolding(rfc6733::specs::Signed::signed, rfc6733::specs::Signed::unix_seconds))]
 
 ghost use Rattle.std.specs.Prelude.{◌≡◌, nat_abs};
 ghost use Rattle.rfc6733.specs.Signed.{signed, unix_seconds};
 
-// Two's complement: a pattern of 32 bits from SIGN_BIT on stands for the number that is less by PATTERNS.
-const SIGN_BIT: u32 = 0x8000_0000;
-
-const PATTERNS: i64 = 0x1_0000_0000;
-
-// Of 64 bits, the pattern SIGN_BIT_64 stands for LEAST, and those after it for the numbers after that.
-const SIGN_BIT_64: u64 = 0x8000_0000_0000_0000;
-
-const LEAST: i64 = -0x8000_0000_0000_0000;
-
-/// An Enumerated of the RFC reading, which is signed.
+/// An Enumerated of the RFC reading, which is signed: it is derived from Integer32.
 pub fn signed_enumerated(bits: u32) -> i64
     ensures { result ≡ signed 32 bits }
 {
-    if bits < SIGN_BIT {
-        return bits as i64;
-    }
-    bits as i64 - PATTERNS
+    i64::from(integer32(bits))
 }
 
 /// An Integer32.
 pub fn integer32(bits: u32) -> i32
     ensures { result ≡ signed 32 bits }
 {
-    signed_enumerated(bits) as i32
+    bits.cast_signed()
 }
 
 /// An Integer64.
 pub fn integer64(bits: u64) -> i64
     ensures { result ≡ signed 64 bits }
 {
-    if bits < SIGN_BIT_64 {
-        return bits as i64;
-    }
-    (bits - SIGN_BIT_64) as i64 + LEAST
+    bits.cast_signed()
 }
 
-/// A number without its sign. The least has no opposite in 64 bits, so one is put aside before the sign is turned.
+/// A number without its sign. The least has no opposite in 64 bits, but has a magnitude.
 pub fn magnitude(n: i64) -> u64
     ensures { result ≡ nat_abs n }
 {
-    if 0 <= n {
-        return n as u64;
-    }
-    (-1 - n) as u64 + 1
+    n.unsigned_abs()
 }
 
 // With its top bit clear a Time is reckoned from 2036-02-07 06:28:16 UTC, with it set from 1900 (RFC 4330, section 3).
@@ -66,7 +47,7 @@ pub fn unix_seconds(time: u32) -> i64
     ensures { result ≡ unix_seconds time }
 {
     if time < TOP_BIT {
-        return time as i64 + TO_2036;
+        return i64::from(time) + TO_2036;
     }
-    time as i64 - FROM_1900
+    i64::from(time) - FROM_1900
 }

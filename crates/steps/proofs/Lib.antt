@@ -1,3 +1,2 @@
 mod Over
 mod Steps
-pub mod AnswerOf

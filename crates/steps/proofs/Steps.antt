@@ -3,7 +3,7 @@
 use Prim.Native.Nat.{ℕ, ◌+◌, ◌≤◌, ◌<◌}
 use mathlib.Core.Path.{◌≡◌, refl, sym, ap, ◌∙◌}
 use mathlib.Core.Bool.{true, false}
-use mathlib.Core.Option.{Option, none, some}
+use Rattle.std.specs.Prelude.{Option, None, Some}
 use mathlib.Core.Logic.{inl, inr, ⊎_elim}
 use mathlib.Core.List.{List, [], ◌∷◌}
 use native.Mathlib.Omega.{arith}
@@ -102,14 +102,14 @@ no_avp f o k e = ⊎_elim (λ t. omega arith) (λ t. omega arith) (rw e at k)
 
 module _ (at from : ℕ) (t u : Tree) (same : tiles t ≡ tiles u) where
   found_same : (x : Option Outline) (o : Outline) → (moved at t x).found ≡ At o → moved at t x ≡ moved from u x
-  found_same (some p) o e = refl
-  found_same none o e =
+  found_same (Some p) o e = refl
+  found_same None o e =
       absurd (elim (decide (tiles t)) [ inl b ↦ no_avp End o (inr refl) (rw b at e) | inr b ↦ no_avp Broken o (inl refl) (rw b at e) ])
 
   none_same : (x : Option Outline) (f : Step) → f ≡ (moved at t x).found → OneOf (1 ∷ 2 ∷ []) (tag_of the_type f)
       → record { found = f; place = from } ≡ moved from u x
-  none_same (some p) f is k = absurd (no_avp f p k is)
-  none_same none f is k = rw (is, same)
+  none_same (Some p) f is k = absurd (no_avp f p k is)
+  none_same None f is k = rw (is, same)
 
 module _ (c : ℕ) (s : List ℕ) (from at : ℕ) (k : Stops c s from at) (st : Stepped) (is : st ≡ step_at s at) where
   -- what is left from either place

@@ -1,8 +1,8 @@
 -- What stands at a place of a payload, and what a search from there finds, by the outlines of what is left from there on (docs/FORMAT.md, 7.8).
 use Rattle.std.specs.Prelude.{ℕ, ◌+◌, ◌-◌, ◌≡◌, true, cond, List, [], ◌∷◌, drop}
-use Rattle.std.proofs.Math.Option.{Option, none, some}
+use Rattle.std.specs.Prelude.{Option, None, Some, Result, Ok, Err}
 use Rattle.octets.specs.Run.{Tree, tree, tiles}
-use Rattle.refusal.specs.Answer.{Answer, accepted, refused}
+use Rattle.refusal.specs.Answer.{Refusal}
 use Rattle.refusal.specs.declared.Refusal.TheVariants.{NotTiled}
 use Rattle.record.specs.Outline.{Outline}
 use Rattle.rfc6733.specs.Avp.{head_size, complete}
@@ -13,8 +13,6 @@ use Rattle.front.specs.Front.{avp_of}
 use Rattle.steps.specs.declared.Step.{Step}
 use Rattle.steps.specs.declared.Step.TheVariants as step
 use Rattle.steps.specs.declared.Stepped.{Stepped}
-use Rattle.steps.specs.declared.Found.{Found}
-use Rattle.steps.specs.declared.Found.TheVariants as found
 
 -- the place past an AVP: after its data and its padding
 unfoldable pub past : Outline → ℕ
@@ -26,12 +24,12 @@ onto o = record { found = step.At o; place = past o }
 
 -- where none is found the reader stays; what is left of the payload tells why
 abbrev pub moved : ℕ → Tree → Option Outline → Stepped
-moved at t (some o) = onto o
-moved at t none = record { found = cond (tiles t) step.End step.Broken; place = at }
+moved at t (Some o) = onto o
+moved at t None = record { found = cond (tiles t) step.End step.Broken; place = at }
 
 abbrev pub first : List Outline → Option Outline
-first [] = none
-first (o ∷ os) = some o
+first [] = None
+first (o ∷ os) = Some o
 
 -- a step at a place, and a search for a code from there on
 unfoldable pub step_at : List ℕ → ℕ → Stepped
@@ -43,15 +41,10 @@ find_at code s at = let t = tree unentered (drop at s) in moved at t (first_with
 -- ---- of a message
 
 -- the end is none, and the failing place a refusal
-unfoldable pub found_of : Step → Found
-found_of (step.At o) = found.At o
-found_of step.Broken = found.Refused NotTiled
-found_of step.End = found.None
-
-unfoldable pub answer_of : Found → Answer (Option Outline)
-answer_of (found.At o) = accepted (some o)
-answer_of found.None = accepted none
-answer_of (found.Refused r) = refused r
+abbrev pub found_of : Step → Result (Option Outline) Refusal
+found_of (step.At o) = Ok (Some o)
+found_of step.Broken = Err NotTiled
+found_of step.End = Ok None
 
 -- ---- what the functions behind these ask and leave
 

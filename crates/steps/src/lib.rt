@@ -8,12 +8,11 @@ ghost use Rattle.rfc6733.specs.Search.{outline};
 ghost use Rattle.steps.specs.Steps.{Standing, Stops, onto, step_at, find_at, found_of};
 
 use avp::AVP;
-use front::First;
 use record::outline::Outline;
 use refusal::Refusal;
 
 /// What a reader finds: an AVP, the place at which none is complete, or the end.
-#[derive(Clone, Copy)]
+#[derive(Clone, Copy, Debug, PartialEq, Eq)]
 pub enum Step {
     At(Outline),
     Broken,
@@ -22,30 +21,22 @@ pub enum Step {
 
 impl Step {
     /// The same of a message: the end is none, and the failing place a refusal.
-    pub fn answer(self) -> Found
+    pub fn answer(self) -> Result<Option<Outline>, Refusal>
         ensures { result ≡ found_of self }
     {
         match self {
-            Step::At(o) => Found::At(o),
-            Step::Broken => Found::Refused(Refusal::NotTiled),
-            Step::End => Found::None,
+            Step::At(o) => Ok(Some(o)),
+            Step::Broken => Err(Refusal::NotTiled),
+            Step::End => Ok(None),
         }
     }
 }
 
 /// What is found, and where the reader then stands.
-#[derive(Clone, Copy)]
+#[derive(Clone, Copy, Debug, PartialEq, Eq)]
 pub struct Stepped {
     pub found: Step,
     pub place: usize,
-}
-
-/// What is found of a code in a message.
-#[derive(Clone, Copy)]
-pub enum Found {
-    At(Outline),
-    None,
-    Refused(Refusal),
 }
 
 // The AVP `a`, which stands at `at`, and the place past it.
@@ -80,7 +71,7 @@ pub fn step_at(payload: &[u8], place: usize) -> Stepped
             place,
         };
     }
-    let First::Whole(a) = front::first_avp(&payload[place..]) else {
+    let Some(a) = front::first_avp(&payload[place..]) else {
         return Stepped {
             found: Step::Broken,
             place,
@@ -96,7 +87,7 @@ fn seek(payload: &[u8], place: usize, code: u32) -> usize
 {
     let mut at = place;
     while at < payload.len() {
-        let First::Whole(a) = front::first_avp(&payload[at..]) else {
+        let Some(a) = front::first_avp(&payload[at..]) else {
             return at;
         };
         if a.code == code {
@@ -112,9 +103,8 @@ pub fn find_from(payload: &[u8], place: usize, code: u32) -> Stepped
     ensures { result ≡ find_at code payload.now place }
 {
     let s = step_at(payload, seek(payload, place, code));
-    let found = s.found;
-    match found {
+    match s.found {
         Step::At(_) => s,
-        _ => Stepped { found, place },
+        found => Stepped { found, place },
     }
 }

@@ -1,6 +1,6 @@
 -- What the functions of the library are asked, and what the lent memory holds afterwards (docs/FORMAT.md, 7 and 8).
 use Rattle.std.specs.Prelude.{ℕ, Bool, true, false, List, length, ℤ}
-use Rattle.refusal.specs.Answer.{Answer, accepted, refused}
+use Rattle.refusal.specs.Answer.{Answer, accepted, refused, answer_of}
 use Rattle.refusal.specs.Refusals.{number_of}
 use Rattle.rfc6733.specs.CreditControl.{edition_of}
 use Rattle.rfc6733.specs.Decoder.{Message, decoded, message_records, avp_alone, alone_records}
@@ -9,8 +9,8 @@ use Rattle.rfc6733.specs.Editions.{decoded_by, avp_alone_by}
 use Rattle.record.specs.Store.{room, stored, output}
 use Rattle.rfc6733.specs.Writer.{Fields, written, table_bytes}
 use Rattle.steps.specs.declared.Stepped.{Stepped}
-use Rattle.steps.specs.Steps.{found_of, answer_of}
-use Rattle.unit_value.specs.declared.Ordering.{Ordering}
+use Rattle.steps.specs.Steps.{found_of}
+use Rattle.std.specs.declared.cmp.Ordering.{Ordering}
 use Rattle.unit_value.specs.UnitValues.{compared}
 use Rattle.attribute.specs.Attributes.{dictionary}
 use Rattle.attribute.specs.declared.Reading.{Reading}

@@ -18,8 +18,8 @@ use attribute::Reading;
 use header::Header;
 use results::{OUTLINE, RESULT};
 use rules::shifting;
-use unit_value::{Compared, UnitValue};
-use utf8::Utf8;
+use unit_value::UnitValue;
+use utf8::Utf8Error;
 use writer::Fields;
 
 fn reading_of(rfc: bool) -> Reading
@@ -104,8 +104,7 @@ pub fn tandrekily_next(message: &[u8], place: usize, res: &mut [u64; OUTLINE]) -
     ensures res { res.new ≡ step_result (step_at message.now place) }
 {
     let s = reader::next(message, place);
-    let found = s.found;
-    *res = results::of_found(found.answer());
+    *res = results::of_found(s.found.answer());
     s.place
 }
 
@@ -154,8 +153,8 @@ pub fn tandrekily_utf8(text: &[u8]) -> usize
     ensures { result ≡ valid_up_to text.now }
 {
     match utf8::check(text) {
-        Utf8::WellFormed => text.len(),
-        Utf8::ValidUpTo(n) => n,
+        Ok(()) => text.len(),
+        Err(Utf8Error { valid_up_to }) => valid_up_to,
     }
 }
 
@@ -197,10 +196,10 @@ pub fn tandrekily_compare(
         exponent: other_exponent,
     };
     match unit_value::compare(a, b) {
-        Compared::Is(o) => {
+        Ok(o) => {
             *order = results::sign_of(o);
             0
         }
-        Compared::Refused(why) => why.number(),
+        Err(why) => why.number(),
     }
 }

@@ -3,7 +3,7 @@ ghost use Rattle.std.specs.Prelude.{◌≡◌};
 ghost use Rattle.results.specs.Packets.{packet_result};
 ghost use Rattle.tandrekily.specs.Packets.{packet_asked, packet_store, authenticator_after, write_result, write_output};
 
-use radius::{Decoded, Packet};
+use radius::Packet;
 use radius_writer::Fields;
 use results::packets::RESULT;
 
@@ -20,13 +20,12 @@ pub fn tandrekily_radius(
 {
     let parsed = radius::parse(input, store);
     let given = parsed.authenticator;
-    let decoded = parsed.decoded;
-    match decoded {
-        Decoded::Accepted(p) => {
+    match parsed.decoded {
+        Ok(p) => {
             *authenticator = given;
             *res = results::packets::lay(0, 0, p);
         }
-        Decoded::Refused(why) => {
+        Err(why) => {
             *res = results::packets::refused(why);
         }
     }

@@ -1,6 +1,5 @@
 pub mod Orders
-pub mod AnswerOf
 mod Powers
 mod Exponents
 mod Wholes
-mod Scaled
+mod Signs

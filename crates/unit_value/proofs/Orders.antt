@@ -1,53 +1,35 @@
--- To compare Unit-Values is an order. Scaled by ten to the 18 each of them is a whole number, and whole numbers are ordered. Values that
--- are the same number are Equal, whatever their exponents.
-use Prim.Native.Nat.{ℕ, ◌+◌, ◌^◌}
-use mathlib.Core.Path.{◌≡◌, refl, sym, ap, ◌∙◌}
-use mathlib.Core.Bool.{true, false, ◌&&◌}
-use mathlib.Core.Logic.{◌⊎◌, inl, inr, ◌↔◌}
-use lib.IntN.{ℤ, pos, ◌+ℤ◌, ◌*ℤ◌, zero-*ℤ}
-use lib.Signed.{lt_z}
+-- To compare Unit-Values is an order. Scaled by ten to the 18 each of them is a whole number, and whole numbers are
+-- ordered. Values that are the same number are Equal, whatever their exponents.
+use Rattle.std.proofs.Common.{◌≡◌, ℕ, ◌+◌, ◌^◌, ℤ, pos, ◌+ℤ◌, ◌*ℤ◌, true, false, ◌&&◌, ◌⊎◌, ◌↔◌}
+use Rattle.std.proofs.Common.{inl, inr, refl, sym, ap, ◌∙◌}
+use Rattle.std.proofs.Math.IntN.{zero-*ℤ}
+use Rattle.std.proofs.lemmas.Bool.{cases_Bool, and_parts}
+use Rattle.std.proofs.lemmas.Cmp.{int_ranked, tied_itself}
+use Rattle.std.specs.Ordering.{ordering_reverse}
+use Rattle.std.specs.declared.cmp.Ordering.{Ordering}
+use Rattle.std.specs.declared.cmp.Ordering.TheVariants.{Less, Equal, Greater}
 use Rattle.refusal.specs.Answer.{Refusal, Answer, accepted, refused}
 use Rattle.refusal.specs.declared.Refusal.TheVariants.{BadExponent}
-use Rattle.refusal.proofs.Answers.{not_accepted, and-true}
-use Rattle.refusal.proofs.Tests.{decide}
 use Rattle.unit_value.specs.declared.UnitValue.{UnitValue}
-use Rattle.unit_value.specs.declared.Ordering.{Ordering}
-use Rattle.unit_value.specs.declared.Ordering.TheVariants.{Less, Equal, Greater}
-use Rattle.unit_value.specs.UnitValues.{order, reversed, in_range, tens, scaled, compared}
+use Rattle.unit_value.specs.UnitValues.{order, in_range, tens, scaled, compared}
 use Rattle.unit_value.proofs.Powers.{powers_joined}
 use Rattle.unit_value.proofs.Exponents.{tens_more}
-use Rattle.unit_value.proofs.Wholes.{one_way, not_below_itself, below_transitive, neither_below}
+use Rattle.unit_value.proofs.Wholes.{order_total}
 
 -- ---- whole numbers
 
-pub order_reversed : (x y : ℤ) → order y x ≡ reversed (order x y)
-unfolding order reversed
-order_reversed x y =
-    elim (decide (lt_z x y)) [
-      | inl e ↦ rw (e, one_way x y e)
-      | inr e ↦ elim (decide (lt_z y x)) [ inl f ↦ rw (e, f) | inr f ↦ rw (e, f) ]
-    ]
+pub order_reversed : (x y : ℤ) → order y x ≡ ordering_reverse (order x y)
+order_reversed x y = order_total.antisymm y x
 
 pub order_itself : (x : ℤ) → order x x ≡ Equal
-unfolding order
-order_itself x = rw (not_below_itself x)
+order_itself x = tied_itself order_total x
 
 pub order_equal : (x y : ℤ) → order x y ≡ Equal → x ≡ y
 unfolding order
-order_equal x y stands =
-    elim (decide (lt_z x y)) [
-      | inl e ↦ cc
-      | inr e ↦ elim (decide (lt_z y x)) [ inl f ↦ cc | inr f ↦ neither_below x y e f ]
-    ]
-
-order_less : (x y : ℤ) → order x y ≡ Less → lt_z x y ≡ true
-unfolding order
-order_less x y stands =
-    elim (decide (lt_z x y)) [ inl e ↦ e | inr e ↦ elim (decide (lt_z y x)) [ inl f ↦ cc | inr f ↦ cc ] ]
+order_equal x y stands = int_ranked x y Equal (sym stands)
 
 pub order_transitive : (x y z : ℤ) → order x y ≡ Less → order y z ≡ Less → order x z ≡ Less
-unfolding order
-order_transitive x y z e f = rw (below_transitive x y z (order_less x y e) (order_less y z f))
+order_transitive x y z e f = order_total.trans x y z e f
 
 -- ---- which values are compared
 
@@ -64,11 +46,11 @@ module _ (u v : UnitValue) where
     where
       there : compared u v ≡ accepted o → Standing u v o
       there e =
-          elim (decide (in_range u.exponent && in_range v.exponent)) [
+          elim (cases_Bool (in_range u.exponent && in_range v.exponent)) [
             | inl both ↦
-                let taken = and-true (in_range u.exponent) (in_range v.exponent) both in
+                let taken = and_parts (in_range u.exponent) (in_range v.exponent) both in
                 record { left_taken = taken.0; right_taken = taken.1; stands = cc }
-            | inr not-both ↦ absurd (not_accepted (rw not-both at e))
+            | inr not-both ↦ absurd (cc)
           ]
 
       back : Standing u v o → compared u v ≡ accepted o
@@ -78,7 +60,7 @@ module _ (u v : UnitValue) where
       → (compared u v ≡ refused why) ↔ ((why ≡ BadExponent) × (in_range u.exponent && in_range v.exponent ≡ false))
   unfolding compared
   refused_is why =
-      elim (decide (in_range u.exponent && in_range v.exponent)) [
+      elim (cases_Bool (in_range u.exponent && in_range v.exponent)) [
         | inl e ↦ rw e (λ f. (cc, cc), λ h. cc)
         | inr e ↦ rw e (λ f. (cc, refl), λ h. cc)
       ]
@@ -108,7 +90,8 @@ module _ (u v : UnitValue) where
 -- ---- Equal where they are the same number, and only there
 
 module _ (u v : UnitValue) where
-  pub same_equal : in_range u.exponent ≡ true → in_range v.exponent ≡ true → scaled u ≡ scaled v → compared u v ≡ accepted Equal
+  pub same_equal : in_range u.exponent ≡ true → in_range v.exponent ≡ true → scaled u ≡ scaled v
+      → compared u v ≡ accepted Equal
   same_equal left right same = compared_in_range u v left right ∙ ap accepted (rw same (order_itself (scaled v)))
 
   pub equal_same : compared u v ≡ accepted Equal → scaled u ≡ scaled v
@@ -116,35 +99,43 @@ module _ (u v : UnitValue) where
 
 -- ---- the other way round
 
-pub compared_reversed : (u v : UnitValue) (o : Ordering) → compared u v ≡ accepted o → compared v u ≡ accepted (reversed o)
+pub compared_reversed : (u v : UnitValue) (o : Ordering) → compared u v ≡ accepted o
+    → compared v u ≡ accepted (ordering_reverse o)
 compared_reversed u v o e =
     let s = (accepted_is u v o).0 e in
-    compared_in_range v u s.right_taken s.left_taken ∙ ap accepted (order_reversed (scaled u) (scaled v) ∙ ap reversed s.stands)
+    compared_in_range v u s.right_taken s.left_taken
+    ∙ ap accepted (order_reversed (scaled u) (scaled v) ∙ ap ordering_reverse s.stands)
 
 -- ---- in a chain
 
 module _ (u v w : UnitValue) where
-  chain : {o p q : Ordering} → compared u v ≡ accepted o → compared v w ≡ accepted p → order (scaled u) (scaled w) ≡ q → compared u w ≡ accepted q
+  chain : {o p q : Ordering} → compared u v ≡ accepted o → compared v w ≡ accepted p → order (scaled u) (scaled w) ≡ q
+      → compared u w ≡ accepted q
   chain {o} {p} e f stands =
-      compared_in_range u w ((accepted_is u v o).0 e).left_taken ((accepted_is v w p).0 f).right_taken ∙ ap accepted stands
+      compared_in_range u w ((accepted_is u v o).0 e).left_taken ((accepted_is v w p).0 f).right_taken
+      ∙ ap accepted stands
 
   pub less_then_less : compared u v ≡ accepted Less → compared v w ≡ accepted Less → compared u w ≡ accepted Less
   less_then_less e f =
-      chain e f
-      (order_transitive (scaled u) (scaled v) (scaled w) ((accepted_is u v Less).0 e).stands ((accepted_is v w Less).0 f).stands)
+      let first = ((accepted_is u v Less).0 e).stands in
+      let second = ((accepted_is v w Less).0 f).stands in
+      chain e f (order_transitive (scaled u) (scaled v) (scaled w) first second)
 
   -- so Equal twice is Equal, and Less with Equal before or after it is Less
-  pub equal_then : (o : Ordering) → compared u v ≡ accepted Equal → compared v w ≡ accepted o → compared u w ≡ accepted o
+  pub equal_then : (o : Ordering) → compared u v ≡ accepted Equal → compared v w ≡ accepted o
+      → compared u w ≡ accepted o
   equal_then o e f = chain e f (rw (equal_same u v e) ((accepted_is v w o).0 f).stands)
 
-  pub then_equal : (o : Ordering) → compared u v ≡ accepted o → compared v w ≡ accepted Equal → compared u w ≡ accepted o
+  pub then_equal : (o : Ordering) → compared u v ≡ accepted o → compared v w ≡ accepted Equal
+      → compared u w ≡ accepted o
   then_equal o e f = chain e f (rw (← equal_same v w f) ((accepted_is u v o).0 e).stands)
 
 -- ---- one number, written in two ways
 
 module _ (u v : UnitValue) (left : in_range u.exponent ≡ true) (right : in_range v.exponent ≡ true) where
   -- as 15 with the exponent 0 and 150 with the exponent -1
-  pub zeros_moved : (k : ℕ) → v.digits ≡ u.digits *ℤ pos (10 ^ k) → v.exponent +ℤ pos k ≡ u.exponent → compared u v ≡ accepted Equal
+  pub zeros_moved : (k : ℕ) → v.digits ≡ u.digits *ℤ pos (10 ^ k) → v.exponent +ℤ pos k ≡ u.exponent
+      → compared u v ≡ accepted Equal
   unfolding scaled
   zeros_moved k digits exponent =
       let tens_are : tens u.exponent ≡ k + tens v.exponent = ap tens (sym exponent) ∙ tens_more k v.exponent right in

@@ -1,65 +1,37 @@
--- How two whole numbers stand: by their signs, and then by the natural numbers in them. Of two that differ one is below the other, and
--- never each below the other.
-use Prim.Native.Nat.{ℕ, zero, suc, ◌*◌, ◌≤◌, ◌<◌}
-use mathlib.Core.Path.{◌≡◌, refl, sym, ap}
-use mathlib.Core.Bool.{true, false}
-use mathlib.Core.Logic.{inl, inr}
-use native.Mathlib.Nat.{mul-le-mul_right, mul-lt-mul_of_pos_right}
-use native.Mathlib.Omega.{arith}
-use lib.Dec.{ltb, leb-suc-suc}
-use lib.IntN.{ℤ, pos, negsuc, neg_ℤ}
-use lib.Signed.{lt_z}
-use borrow.Author.Tests.{ltb-true, ltb-false, lt-ltb, le-ltb}
-use Rattle.refusal.proofs.Tests.{decide}
-use Rattle.unit_value.specs.declared.Ordering.TheVariants.{Less, Equal, Greater}
+-- How whole numbers stand: the library's laws of their order, and what becomes of it under products and signs.
+use Rattle.std.proofs.Common.{◌≡◌, ℕ, ◌*◌, ◌<◌, ◌≤◌, ℤ, pos, negsuc, true, false, refl, inl, inr, arith}
+use Rattle.std.proofs.Math.Nat.{mul-le-mul_right, mul-lt-mul_of_pos_right}
+use Rattle.std.proofs.lemmas.Bool.{cases_lt}
+use Rattle.std.proofs.Math.Dec.{ltb}
+use Rattle.std.proofs.lemmas.Bool.Decides.{nat_tests}
+use Rattle.std.proofs.lemmas.Cmp.{int_cmp_total}
+use Rattle.std.specs.Cmp.{IsTotalOrder}
+use Rattle.std.specs.Int.Signed.{le_z}
+use Rattle.std.specs.Ordering.{nat_cmp}
+use Rattle.std.specs.Prelude.{nat_abs}
+use Rattle.std.specs.declared.cmp.Ordering.TheVariants.{Less, Greater}
 use Rattle.unit_value.specs.UnitValues.{order}
 
--- ---- the order
+pub order_total : IsTotalOrder order
+unfolding order
+order_total = int_cmp_total
 
-pub one_way : (x y : ℤ) → lt_z x y ≡ true → lt_z y x ≡ false
-one_way (pos a) (pos b) e = le-ltb b a (omega (arith, ltb-true a b e))
-one_way (pos a) (negsuc b) e = sym e
-one_way (negsuc a) (pos b) e = refl
-one_way (negsuc a) (negsuc b) e = le-ltb a b (omega (arith, ltb-true b a e))
+-- ---- natural numbers
 
-pub not_below_itself : (x : ℤ) → lt_z x x ≡ false
-not_below_itself x = elim (decide (lt_z x x)) [ inl e ↦ one_way x x e | inr e ↦ e ]
+pub natural : (a b : ℕ) → order (pos a) (pos b) ≡ nat_cmp a b
+unfolding order
+natural a b = grind (arith, nat_tests)
 
-pub below_transitive : (x y z : ℤ) → lt_z x y ≡ true → lt_z y z ≡ true → lt_z x z ≡ true
-below_transitive (pos a) (pos b) (pos c) e f = lt-ltb a c (omega (arith, ltb-true a b e, ltb-true b c f))
-below_transitive (pos a) (pos b) (negsuc c) e f = f
-below_transitive (pos a) (negsuc b) z e f = cc
-below_transitive (negsuc a) y (pos c) e f = refl
-below_transitive (negsuc a) (pos b) (negsuc c) e f = cc
-below_transitive (negsuc a) (negsuc b) (negsuc c) e f = lt-ltb c a (omega (arith, ltb-true b a e, ltb-true c b f))
+pub greater : (a b : ℕ) → b < a → Greater ≡ order (pos a) (pos b)
+unfolding order
+greater a b h = grind (arith, nat_tests)
 
-pub neither_below : (x y : ℤ) → lt_z x y ≡ false → lt_z y x ≡ false → x ≡ y
-neither_below (pos a) (pos b) e f = ap pos (omega (arith, ltb-false a b e, ltb-false b a f))
-neither_below (pos a) (negsuc b) e f = cc
-neither_below (negsuc a) (pos b) e f = cc
-neither_below (negsuc a) (negsuc b) e f = ap negsuc (omega (arith, ltb-false b a e, ltb-false a b f))
-
--- ---- how natural numbers stand
-
-module _ (a b : ℕ) where
-  pub less : a < b → order (pos a) (pos b) ≡ Less
-  unfolding order
-  less h = rw (lt-ltb a b h)
-
-  pub equal : a ≡ b → order (pos a) (pos b) ≡ Equal
-  unfolding order
-  equal e = rw (e, not_below_itself (pos b))
-
-  pub greater : b < a → order (pos a) (pos b) ≡ Greater
-  unfolding order
-  greater h = let over : b ≤ a = omega arith in rw (le-ltb a b over, lt-ltb b a h)
-
-  test_times : (p : ℕ) → 0 < p → ltb (a * p) (b * p) ≡ ltb a b
-  test_times p some =
-      elim (decide (ltb a b)) [
-        | inl e ↦ rw e (lt-ltb (a * p) (b * p) (mul-lt-mul_of_pos_right (ltb-true a b e) some))
-        | inr e ↦ rw e (le-ltb (a * p) (b * p) (mul-le-mul_right p (ltb-false a b e)))
-      ]
+test_times : (a b p : ℕ) → 0 < p → ltb (a * p) (b * p) ≡ ltb a b
+test_times a b p some =
+    elim (cases_lt a b) [
+      | inl h ↦ let more : a * p < b * p = mul-lt-mul_of_pos_right h some in grind (arith, nat_tests)
+      | inr h ↦ let more : b * p ≤ a * p = mul-le-mul_right p h in grind (arith, nat_tests)
+    ]
 
 pub order_times : (a b p : ℕ) → 0 < p → order (pos (a * p)) (pos (b * p)) ≡ order (pos a) (pos b)
 unfolding order
@@ -67,14 +39,27 @@ order_times a b p some = rw (test_times a b p some, test_times b a p some)
 
 -- ---- and with signs
 
-pub order_opposite : (a b : ℕ) → order (neg_ℤ (pos a)) (neg_ℤ (pos b)) ≡ order (pos b) (pos a)
-unfolding order
-order_opposite zero zero = refl
-order_opposite zero (suc b) = sym (greater (suc b) 0 (omega arith))
-order_opposite (suc a) zero = sym (less 0 (suc a) (omega arith))
-order_opposite (suc a) (suc b) = rw (leb-suc-suc (suc b) a, leb-suc-suc (suc a) b)
+pub both_natural : (x y : ℤ) → le_z (pos 0) x ≡ true → le_z (pos 0) y ≡ true
+    → order x y ≡ order (pos (nat_abs x)) (pos (nat_abs y))
+both_natural (pos a) (pos b) e f = refl
+both_natural (pos a) (negsuc b) e f = cc
+both_natural (negsuc a) y e f = cc
 
-pub above_negative : (a b : ℕ) → 0 < b → order (pos a) (neg_ℤ (pos b)) ≡ Greater
+pub both_negative : (x y : ℤ) → le_z (pos 0) x ≡ false → le_z (pos 0) y ≡ false
+    → order x y ≡ order (pos (nat_abs y)) (pos (nat_abs x))
 unfolding order
-above_negative a zero h = absurd (omega arith)
-above_negative a (suc b) h = refl
+both_negative (pos a) y e f = grind (arith, nat_tests)
+both_negative (negsuc a) (pos b) e f = grind (arith, nat_tests)
+both_negative (negsuc a) (negsuc b) e f = grind (arith, nat_tests)
+
+pub natural_negative : (x y : ℤ) → le_z (pos 0) x ≡ true → le_z (pos 0) y ≡ false → order x y ≡ Greater
+unfolding order
+natural_negative (pos a) (pos b) e f = grind (arith, nat_tests)
+natural_negative (pos a) (negsuc b) e f = refl
+natural_negative (negsuc a) y e f = cc
+
+pub negative_natural : (x y : ℤ) → le_z (pos 0) x ≡ false → le_z (pos 0) y ≡ true → order x y ≡ Less
+unfolding order
+negative_natural (pos a) y e f = grind (arith, nat_tests)
+negative_natural (negsuc a) (pos b) e f = refl
+negative_natural (negsuc a) (negsuc b) e f = cc

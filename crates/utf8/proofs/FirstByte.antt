@@ -1,20 +1,20 @@
 -- The first byte of a text says which line of the syntax may match: the first ranges of a line's rows lie between two bytes, and those of two
 -- lines do not meet. So the size of a character follows from one line.
 use Prim.Native.Nat.{ℕ, ◌≤◌, ◌<◌}
-use mathlib.Core.Path.{◌≡◌, refl, sym}
+use mathlib.Core.Path.{◌≡◌, refl, sym, ◌∙◌}
 use mathlib.Core.Bool.{Bool, true, false, cond, ◌&&◌, ◌||◌, and-true, and-false, or-true, or-false, false≢true}
 use mathlib.Core.Logic.{inl, inr}
 use mathlib.Core.List.{List, [], ◌∷◌}
 use mathlib.Mathlib.Data.Bool.Basic.{dichotomy}
 use native.Mathlib.Omega.{arith}
 use lib.Dec.{leb, eqb}
-use lib.ListN.{get_or}
+use lib.ListN.{length, get_or}
 use borrow.Author.Tests.{leb-true, leb-false, le-leb, lt-leb, eq-eqb}
 use Rattle.rfc3629.specs.Abnf.{Range}
 use Rattle.rfc3629.specs.Syntax.{Utf8Tail, Utf8_1, Utf8_2, Utf8_3, Utf8_4}
 use Rattle.rfc3629.specs.Utf8.{within, matches, matches_any, char_size}
 use Rattle.rfc3629.proofs.Matches.{both}
-use Rattle.rfc3629.proofs.Lines.{size_is}
+use Rattle.rfc3629.proofs.Lines.{size_is, first}
 
 -- do the first ranges of all rows lie from low to high?
 abbrev firsts_within : ℕ → ℕ → List (List Range) → Bool
@@ -23,8 +23,8 @@ firsts_within low high ([] ∷ rss) = false
 firsts_within low high ((r ∷ rs) ∷ rss) = leb low r.low && leb r.high high && firsts_within low high rss
 
 -- a text whose first byte is not among them does not match
-outside : (low high : ℕ) (rss : List (List Range)) → firsts_within low high rss ≡ true → (s : List ℕ) → (low ≤ get_or s 0 0 → get_or s 0 0 ≤ high → ⊥)
-    → matches_any rss s ≡ false
+outside : (low high : ℕ) (rss : List (List Range)) → firsts_within low high rss ≡ true
+    → (s : List ℕ) → (low ≤ get_or s 0 0 → get_or s 0 0 ≤ high → ⊥) → matches_any rss s ≡ false
 outside low high [] w s h = refl
 outside low high ([] ∷ rss) w s h = absurd (false≢true w)
 outside low high ((r ∷ rs) ∷ rss) w [] h = outside low high rss (both (leb low r.low && leb r.high high) (firsts_within low high rss) w).1 [] h
@@ -43,19 +43,36 @@ outside low high ((r ∷ rs) ∷ rss) w (b ∷ s) h =
 -- ---- the one line that is left
 
 module _ (s : List ℕ) where
-  pub line_2 : {p : Bool} → matches_any Utf8_1 s ≡ false → get_or s 0 0 ≤ 0xDF → matches_any Utf8_2 s ≡ p → cond p 2 0 ≡ char_size s
-  line_2 d h e =
-      size_is s d e (outside 0xE0 0xEF Utf8_3 refl s (λ l g. omega arith)) (outside 0xF0 0xF4 Utf8_4 refl s (λ l g. omega arith))
+  abbrev byte : ℕ → ℕ
+  byte k = get_or s k 0
+
+  -- UTF8-1, as code asks it of the first byte
+  pub said_1 : {r p : Bool} → 1 ≤ length s → r ≡ matches_any Utf8_1 (byte 0 ∷ []) → r ≡ p → matches_any Utf8_1 s ≡ p
+  said_1 room asked is = first 1 Utf8_1 s room ∙ sym asked ∙ is
+
+  -- what code answers by a line that it asks of the bytes at the front, where the others are out
+  pub line_2 : {r : Bool} {n : ℕ} → matches_any Utf8_1 s ≡ false → byte 0 ≤ 0xDF
+      → 2 ≤ length s → r ≡ matches_any Utf8_2 (byte 0 ∷ byte 1 ∷ []) → n ≡ cond r 2 0 → n ≡ char_size s
+  line_2 other h room asked is =
+      is ∙ size_is s other (first 2 Utf8_2 s room ∙ sym asked)
+      (outside 0xE0 0xEF Utf8_3 refl s (λ l g. omega arith)) (outside 0xF0 0xF4 Utf8_4 refl s (λ l g. omega arith))
 
   -- two lines are left
-  pub from_3 : {p q : Bool} → 0xDF < get_or s 0 0 → matches_any Utf8_3 s ≡ p → matches_any Utf8_4 s ≡ q → cond p 3 (cond q 4 0) ≡ char_size s
+  pub from_3 : {p q : Bool} → 0xDF < byte 0 → matches_any Utf8_3 s ≡ p → matches_any Utf8_4 s ≡ q → cond p 3 (cond q 4 0) ≡ char_size s
   from_3 h = size_is s (outside 0x00 0x7F Utf8_1 refl s (λ l g. omega arith)) (outside 0xC2 0xDF Utf8_2 refl s (λ l g. omega arith))
 
-  pub line_3 : {p : Bool} → 0xDF < get_or s 0 0 → get_or s 0 0 ≤ 0xEF → matches_any Utf8_3 s ≡ p → cond p 3 0 ≡ char_size s
-  line_3 h k e = from_3 h e (outside 0xF0 0xF4 Utf8_4 refl s (λ l g. omega arith))
+  pub line_3 : {r : Bool} {n : ℕ} → 0xDF < byte 0 → byte 0 ≤ 0xEF
+      → 3 ≤ length s → r ≡ matches_any Utf8_3 (byte 0 ∷ byte 1 ∷ byte 2 ∷ []) → n ≡ cond r 3 0 → n ≡ char_size s
+  line_3 h k room asked is =
+      is ∙ from_3 h (first 3 Utf8_3 s room ∙ sym asked) (outside 0xF0 0xF4 Utf8_4 refl s (λ l g. omega arith))
 
-  pub line_4 : {p : Bool} → 0xEF < get_or s 0 0 → matches_any Utf8_4 s ≡ p → cond p 4 0 ≡ char_size s
-  line_4 h = from_3 (omega arith) (outside 0xE0 0xEF Utf8_3 refl s (λ l g. omega arith))
+  -- one is
+  pub from_4 : {p : Bool} → 0xEF < byte 0 → matches_any Utf8_4 s ≡ p → cond p 4 0 ≡ char_size s
+  from_4 h = from_3 (omega arith) (outside 0xE0 0xEF Utf8_3 refl s (λ l g. omega arith))
+
+  pub line_4 : {r : Bool} {n : ℕ} → 0xEF < byte 0
+      → 4 ≤ length s → r ≡ matches_any Utf8_4 (byte 0 ∷ byte 1 ∷ byte 2 ∷ byte 3 ∷ []) → n ≡ cond r 4 0 → n ≡ char_size s
+  line_4 h room asked is = is ∙ from_4 h (first 4 Utf8_4 s room ∙ sym asked)
 
 -- ---- UTF8-3 by its first byte
 

@@ -1,6 +1,6 @@
-// What was added for speed. No two lines of the syntax share a first byte, so the first byte says which line may match, and to ask that one
-// alone changes no answer.
-ghost use Rattle.std.specs.Prelude.{◌≡◌, [], ◌∷◌, ◌≤◌};
+// What was added for speed. No two lines of the syntax share a first byte, so the first byte says which line may match,
+// and to ask that one alone changes no answer.
+ghost use Rattle.std.specs.Prelude.{◌≡◌, cond, [], ◌∷◌, ◌≤◌};
 ghost use Rattle.rfc3629.specs.Syntax.{Utf8_3};
 ghost use Rattle.rfc3629.specs.Utf8.{matches_any, char_size};
 
@@ -9,41 +9,20 @@ ghost use Rattle.rfc3629.specs.Utf8.{matches_any, char_size};
 pub(super) fn char_size(s: &[u8]) -> usize
     ensures { result ≡ char_size s.now }
 {
-    let n = s.len();
-    if n < 1 {
-        return 0;
+    match *s {
+        [a, ..] if rfc3629::is_utf8_1(a) => 1,
+        [a, b, ..] if a <= 0xDF => size_if(rfc3629::is_utf8_2(a, b), 2),
+        [a, b, c, ..] if a <= 0xEF => size_if(is_utf8_3(a, b, c), 3),
+        [a, b, c, d, ..] => size_if(rfc3629::is_utf8_4(a, b, c, d), 4),
+        _ => 0,
     }
-    let a = s[0];
-    if rfc3629::is_utf8_1(a) {
-        return 1;
-    }
-    if n < 2 {
-        return 0;
-    }
-    let b = s[1];
-    if a <= 0xDF {
-        if rfc3629::is_utf8_2(a, b) {
-            return 2;
-        }
-        return 0;
-    }
-    if n < 3 {
-        return 0;
-    }
-    let c = s[2];
-    if a <= 0xEF {
-        if is_utf8_3(a, b, c) {
-            return 3;
-        }
-        return 0;
-    }
-    if n < 4 {
-        return 0;
-    }
-    if rfc3629::is_utf8_4(a, b, c, s[3]) {
-        return 4;
-    }
-    0
+}
+
+// The size that a line has, where it matches.
+fn size_if(matches: bool, size: usize) -> usize
+    ensures { result ≡ cond matches size 0 }
+{
+    if matches { size } else { 0 }
 }
 
 // UTF8-3 where the first byte is E0 to EF: two tails follow it, and E0 and ED alone ask for more.

@@ -1,3 +1,2 @@
-pub mod KnownKinds
 pub mod ReadAs
 pub mod Shown

@@ -1,15 +1,14 @@
 -- What data are by a dictionary: a value of the code as one of the definition.
-use Rattle.std.specs.Prelude.{ℕ, ◌≡◌, Bool, cond, List, eqb}
+use Rattle.std.specs.Prelude.{ℕ, ◌≡◌, Bool, cond, List, eqb, ⊤, Result, Ok, Err}
 use Rattle.address.specs.declared.IpAddr.{IpAddr}
-use Rattle.address.specs.declared.Found.{Found}
-use Rattle.address.specs.declared.Found.TheVariants as found
+use Rattle.address.specs.declared.NoAddress.{NoAddress}
+use Rattle.address.specs.declared.NoAddress.TheVariants.{BadLength, OtherFamily}
 use Rattle.address.specs.Addresses.{address_number, address_of}
-use Rattle.utf8.specs.declared.Utf8.{Utf8}
-use Rattle.utf8.specs.declared.Utf8.TheVariants.{WellFormed, ValidUpTo}
+use Rattle.utf8.specs.declared.Utf8Error.{Utf8Error}
 use Rattle.flags.specs.Flags.{data_value, data_length}
 use Rattle.record.specs.Kinds as kinds
 use Rattle.record.specs.Value as values
-use Rattle.rfc6733.specs.Value.{kinds32, kinds64, one_of, fixed, data_as}
+use Rattle.rfc6733.specs.Value.{data_as}
 use Rattle.rfc6733.specs.Records.{tiling}
 use Rattle.value.specs.declared.Value.{Value}
 use Rattle.value.specs.declared.Value.TheVariants.{Unhandled, OctetString, Integer32, Integer64, Unsigned32, Unsigned64, Float32, Float64, Grouped, Enumerated, UTF8String, DiameterIdentity, DiameterURI, Address, Time}
@@ -52,31 +51,23 @@ number_of (Address a) = address_number a
 number_of (Time n) = n
 
 -- text as the check has it: the value v, or where it broke
-abbrev pub text_of : Utf8 → Value → Value
-text_of WellFormed v = v
-text_of (ValidUpTo n) v = Unhandled n
+abbrev pub text_of : Result ⊤ Utf8Error → Value → Value
+text_of (Ok all) v = v
+text_of (Err why) v = Unhandled why.valid_up_to
 
-abbrev pub text_errors : Utf8 → ℕ
-text_errors WellFormed = 0
-text_errors (ValidUpTo n) = data_value
-
--- data as a number by its kind, and Unhandled by any other
-unfoldable pub fixed_as : ℕ → List ℕ → values.Value
-fixed_as k s =
-    cond (one_of k kinds32) (fixed 4 k s)
-    (cond (one_of k kinds64) (fixed 8 k s)
-    (values.value kinds.unhandled 0 0))
+abbrev pub text_errors : Result ⊤ Utf8Error → ℕ
+text_errors (Ok all) = 0
+text_errors (Err why) = data_value
 
 -- data that should be an Address, as the crate address has it: an Address or none
-abbrev pub address_or_none : Found → Value
-address_or_none (found.Address a) = Address a
-address_or_none found.BadLength = Unhandled 0
-address_or_none found.OtherFamily = Unhandled 0
+abbrev pub address_or_none : Result IpAddr NoAddress → Value
+address_or_none (Ok a) = Address a
+address_or_none (Err why) = Unhandled 0
 
-abbrev pub address_errors : Found → ℕ
-address_errors (found.Address a) = 0
-address_errors found.BadLength = data_length
-address_errors found.OtherFamily = 0
+abbrev pub address_errors : Result IpAddr NoAddress → ℕ
+address_errors (Ok a) = 0
+address_errors (Err BadLength) = data_length
+address_errors (Err OtherFamily) = 0
 
 -- what a value of the code shows
 unfoldable pub read_as : Read → values.Value

@@ -2,24 +2,25 @@
 // This crate knows the data of one AVP, and nothing of records or of nesting.
 #![tactic(auto)]
 
-ghost use Rattle.std.specs.Prelude.{◌≡◌, true, cond, ◌||◌};
-ghost use Rattle.rfc6733.specs.Value.{kinds32, kinds64, one_of, fixed};
+ghost use Rattle.std.specs.Prelude.{◌≡◌, ℕ, ◌≤◌, ◌<◌, cond, ◌||◌, length, ltb};
+ghost use Rattle.octets.specs.Octets.{be};
 ghost use Rattle.rfc6733.specs.Records.{tiling};
-ghost use Rattle.flags.specs.Flags.{data_value};
+ghost use Rattle.flags.specs.Flags.{data_value, data_length, flag};
 ghost use Rattle.attribute.specs.ByTable.{known, address_by};
-ghost use Rattle.value.specs.Values.{kind_of, number_of, text_of, text_errors, address_or_none, address_errors, fixed_as, read_as, Shows, value_if, new_value};
+ghost use Rattle.value.specs.Values.{kind_of, number_of, text_of, text_errors, address_or_none, address_errors};
+ghost use Rattle.value.specs.Values.{Shows, value_if, new_value};
 
-use address::{Found, IpAddr};
+use address::{IpAddr, NoAddress};
 use flags::ErrorFlags;
 use record::kinds::{
     ADDRESS, DIAMETER_IDENTITY, DIAMETER_URI, ENUMERATED, FLOAT32, FLOAT64, GROUPED, INTEGER32,
     INTEGER64, OCTET_STRING, TIME, UNHANDLED, UNSIGNED32, UNSIGNED64, UTF8_STRING,
 };
-use utf8::Utf8;
+use utf8::Utf8Error;
 
 /// AVP Data Format as specified in RFC 6733, section 4.2. Data that are no number stay in the input;
 /// a number is held as its bits, whatever its sign or form.
-#[derive(Clone, Copy)]
+#[derive(Clone, Copy, Debug, PartialEq, Eq)]
 pub enum Value {
     /// Of ill-formed text, the length of its longest prefix that is well-formed; otherwise 0.
     Unhandled(u64),
@@ -40,10 +41,48 @@ pub enum Value {
 }
 
 /// A value with the error flags that reading it raised.
-#[derive(Clone, Copy)]
+#[derive(Clone, Copy, Debug, PartialEq, Eq)]
 pub struct Read {
     pub value: Value,
     pub errors: u8,
+}
+
+// A number of 32 or of 64 bits (RFC 6733, section 4.2).
+trait Number {
+    ghost SIZE: { ℕ };
+
+    ghost bits: { Self → ℕ };
+
+    // How many bytes it takes.
+    const SIZE: usize;
+
+    // The one at the front of some bytes. A byte that is absent counts as 0.
+    fn at_front(bytes: &[u8]) -> Self
+        ensures { bits result ≡ be SIZE bytes.now 0 };
+}
+
+impl Number for u32 {
+    ghost SIZE = { 4 };
+
+    ghost bits = { λ n. n };
+
+    const SIZE: usize = 4;
+
+    fn at_front(bytes: &[u8]) -> u32 {
+        word::be_u32(bytes)
+    }
+}
+
+impl Number for u64 {
+    ghost SIZE = { 8 };
+
+    ghost bits = { λ n. n };
+
+    const SIZE: usize = 8;
+
+    fn at_front(bytes: &[u8]) -> u64 {
+        word::be_u64(bytes)
+    }
 }
 
 impl Read {
@@ -64,7 +103,8 @@ impl Read {
 
     // A group, whose members must tile.
     fn group(tiles: bool) -> Read
-        ensures { (result.value ≡ cond tiles Value.Grouped (Value.Unhandled 0)) × (result.errors ≡ cond tiles 0 data_value) }
+        ensures { (result.value ≡ cond tiles Value.Grouped (Value.Unhandled 0))
+            × (result.errors ≡ cond tiles 0 data_value) }
     {
         if tiles {
             return Read::good(Value::Grouped);
@@ -73,132 +113,80 @@ impl Read {
     }
 
     // Text that is well-formed no further.
-    fn ill_formed(valid_up_to: usize) -> Read
-        ensures { (result.value ≡ Value.Unhandled valid_up_to) × (result.errors ≡ data_value) }
+    fn ill_formed(why: Utf8Error) -> Read
+        ensures { (result.value ≡ Value.Unhandled why.valid_up_to) × (result.errors ≡ data_value) }
     {
         Read {
-            value: Value::Unhandled(valid_up_to as u64),
+            value: Value::Unhandled(why.valid_up_to as u64),
             errors: ErrorFlags::DataValue as u8,
         }
     }
 
     // A value that is text.
-    fn text(checked: Utf8, value: Value) -> Read
+    fn text(checked: Result<(), Utf8Error>, value: Value) -> Read
         ensures { (result.value ≡ text_of checked value) × (result.errors ≡ text_errors checked) }
     {
         match checked {
-            Utf8::WellFormed => Read::good(value),
-            Utf8::ValidUpTo(n) => Read::ill_formed(n),
+            Ok(()) => Read::good(value),
+            Err(why) => Read::ill_formed(why),
         }
     }
 
-    // A number of 32 bits. With surplus data it is kept; with too few the data are Unhandled.
-    fn fixed_32(kind: u8, data: &[u8]) -> Read
-        requires { one_of kind kinds32 ≡ true }
-        ensures { read_as result ≡ fixed 4 kind «data».now }
+    // A number, and the value that is made of it. With surplus data it is kept; with too few the data are Unhandled.
+    fn number<N: Number, F: FnOnce(N) -> Value>(data: &[u8], value: F) -> Read
+        requires { F.IsAlwaysCallable value }
+        ensures few { length «data».now < N.SIZE → (result.value ≡ Value.Unhandled 0) × (result.errors ≡ data_length) }
+        ensures enough { N.SIZE ≤ length «data».now →
+            (n : N) × (N.bits n ≡ be N.SIZE «data».now 0) × F.post value n result.value
+            × (result.errors ≡ flag (ltb N.SIZE (length «data».now)) data_length) }
     {
         let size = data.len();
-        if size < Value::SIZE_32 {
+        if size < N::SIZE {
             return Read::unhandled(ErrorFlags::DataLength as u8);
         }
-        let bits = word::be_u32(data);
         Read {
-            value: Value::of_32(kind, bits),
-            errors: flags::raised(Value::SIZE_32 < size, ErrorFlags::DataLength as u8),
-        }
-    }
-
-    // A number of 64 bits, in the same way.
-    fn fixed_64(kind: u8, data: &[u8]) -> Read
-        requires { one_of kind kinds64 ≡ true }
-        ensures { read_as result ≡ fixed 8 kind «data».now }
-    {
-        let size = data.len();
-        if size < Value::SIZE_64 {
-            return Read::unhandled(ErrorFlags::DataLength as u8);
-        }
-        let bits = word::be_u64(data);
-        Read {
-            value: Value::of_64(kind, bits),
-            errors: flags::raised(Value::SIZE_64 < size, ErrorFlags::DataLength as u8),
-        }
-    }
-
-    // A number by its kind, and Unhandled by any other. The kind is a constant in its arm, so that the compiler knows what it builds.
-    fn fixed(kind: u8, data: &[u8]) -> Read
-        ensures { read_as result ≡ fixed_as kind «data».now }
-    {
-        match kind {
-            INTEGER32 => Read::fixed_32(INTEGER32, data),
-            UNSIGNED32 => Read::fixed_32(UNSIGNED32, data),
-            FLOAT32 => Read::fixed_32(FLOAT32, data),
-            ENUMERATED => Read::fixed_32(ENUMERATED, data),
-            TIME => Read::fixed_32(TIME, data),
-            INTEGER64 => Read::fixed_64(INTEGER64, data),
-            UNSIGNED64 => Read::fixed_64(UNSIGNED64, data),
-            FLOAT64 => Read::fixed_64(FLOAT64, data),
-            _ => Read::unhandled(0),
+            value: value(N::at_front(data)),
+            errors: flags::raised(N::SIZE < size, ErrorFlags::DataLength as u8),
         }
     }
 
     // What an Address's data are.
-    fn address(found: Found) -> Read
+    fn address(found: Result<IpAddr, NoAddress>) -> Read
         ensures { (result.value ≡ address_or_none found) × (result.errors ≡ address_errors found) }
     {
         match found {
-            Found::Address(address) => Read::good(Value::Address(address)),
-            Found::BadLength => Read::unhandled(ErrorFlags::DataLength as u8),
-            Found::OtherFamily => Read::unhandled(0),
+            Ok(address) => Read::good(Value::Address(address)),
+            Err(NoAddress::BadLength) => Read::unhandled(ErrorFlags::DataLength as u8),
+            Err(NoAddress::OtherFamily) => Read::unhandled(0),
         }
     }
 }
 
 impl Value {
-    // RFC 6733, section 4.2: how many bytes the numbers of 32 and of 64 bits take.
-    const SIZE_32: usize = 4;
-
-    const SIZE_64: usize = 8;
-
-    // A number by its kind, one of those of 32 bits.
-    fn of_32(kind: u8, bits: u32) -> Value
-        requires { one_of kind kinds32 ≡ true }
-        ensures { (kind_of result ≡ kind) × (number_of result ≡ bits) }
-    {
-        match kind {
-            INTEGER32 => Value::Integer32(bits),
-            UNSIGNED32 => Value::Unsigned32(bits),
-            FLOAT32 => Value::Float32(bits),
-            ENUMERATED => Value::Enumerated(bits),
-            _ => Value::Time(bits),
-        }
-    }
-
-    // A number by its kind, one of those of 64 bits.
-    fn of_64(kind: u8, bits: u64) -> Value
-        requires { one_of kind kinds64 ≡ true }
-        ensures { (kind_of result ≡ kind) × (number_of result ≡ bits) }
-    {
-        match kind {
-            INTEGER64 => Value::Integer64(bits),
-            UNSIGNED64 => Value::Unsigned64(bits),
-            _ => Value::Float64(bits),
-        }
-    }
-
-    /// The value of an AVP's data by its kind. A number that is no kind is Unhandled. An Address starts with its family, or not.
+    /// The value of an AVP's data by its kind. A number that is no kind is Unhandled.
+    /// An Address starts with its family, or not.
     pub fn new(families: bool, kind: u8, data: &[u8]) -> Read
         ensures { Shows (new_value (address_by families) (known kind) «data».now) «data».now result }
     {
         Value::new_known(families, false, kind, data)
     }
 
-    /// The same, where it may be known already that a group's members tile: `tiles` says so, and where it is false they are asked.
+    /// The same, where it may be known already that a group's members tile: `tiles` says so.
+    /// Where it is false they are asked.
     pub fn new_known(families: bool, tiles: bool, kind: u8, data: &[u8]) -> Read
-        ensures { Shows (value_if (tiles || tiling «data».now) (address_by families) (known kind) «data».now) «data».now result }
+        ensures { Shows (value_if (tiles || tiling «data».now) (address_by families) (known kind) «data».now)
+            «data».now result }
     {
         match kind {
             OCTET_STRING => Read::good(Value::OctetString),
+            INTEGER32 => Read::number(data, Value::Integer32),
+            INTEGER64 => Read::number(data, Value::Integer64),
+            UNSIGNED32 => Read::number(data, Value::Unsigned32),
+            UNSIGNED64 => Read::number(data, Value::Unsigned64),
+            FLOAT32 => Read::number(data, Value::Float32),
+            FLOAT64 => Read::number(data, Value::Float64),
             GROUPED => Read::group(tiles || front::tiles(data)),
+            ENUMERATED => Read::number(data, Value::Enumerated),
             UTF8_STRING => Read::text(utf8::check(data), Value::UTF8String),
             DIAMETER_IDENTITY => Read::text(utf8::check(data), Value::DiameterIdentity),
             DIAMETER_URI => Read::text(utf8::check(data), Value::DiameterURI),
@@ -209,7 +197,8 @@ impl Value {
                     address::bare(data)
                 })
             }
-            _ => Read::fixed(kind, data),
+            TIME => Read::number(data, Value::Time),
+            _ => Read::unhandled(0),
         }
     }
 

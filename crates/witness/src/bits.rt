@@ -15,12 +15,12 @@ fn of_header(rt: &impl Print, flags: u8) -> io::Result<()> {
         end_id: 0,
     };
     print::label(rt, b"header")?;
-    print::number(rt, flags as u64)?;
+    print::number(rt, flags)?;
     print::bit(rt, h.is_request())?;
     print::bit(rt, h.is_proxiable())?;
     print::bit(rt, h.is_error())?;
     print::bit(rt, h.is_potentially_retransmitted())?;
-    print::number(rt, h.get_reserved() as u64)?;
+    print::number(rt, h.get_reserved())?;
     print::end(rt)
 }
 
@@ -33,14 +33,14 @@ fn of_avp(rt: &impl Print, flags: u8) -> io::Result<()> {
         size: 8,
     };
     print::label(rt, b"avp")?;
-    print::number(rt, flags as u64)?;
+    print::number(rt, flags)?;
     print::bit(rt, AVP::vendor_specific_flag(flags))?;
     print::bit(rt, a.is_vendor_specific())?;
     print::bit(rt, a.is_mandatory())?;
     print::bit(rt, a.is_protected())?;
-    print::number(rt, a.get_reserved() as u64)?;
-    print::number(rt, AVP::header_size_of(flags) as u64)?;
-    print::number(rt, a.header_size() as u64)?;
+    print::number(rt, a.get_reserved())?;
+    print::number(rt, AVP::header_size_of(flags))?;
+    print::number(rt, a.header_size())?;
     print::end(rt)
 }
 

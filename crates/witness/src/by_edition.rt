@@ -1,7 +1,7 @@
 // The kind of each code by both editions of the credit-control dictionary.
 use crate::print;
 use attribute::Reading;
-use editions::{Chosen, Edition};
+use editions::Edition;
 use std::io;
 
 // Some more than the tables have.
@@ -9,18 +9,15 @@ const CODES: u32 = 701;
 
 fn of_code(rt: &impl Print, edition: u32, kinds: &[u8], code: u32) -> io::Result<()> {
     print::label(rt, b"edition")?;
-    print::number(rt, edition as u64)?;
-    print::number(rt, code as u64)?;
-    print::number(
-        rt,
-        attribute::kind(Reading::Rfc.dictionary(), kinds, code, 0) as u64,
-    )?;
+    print::number(rt, edition)?;
+    print::number(rt, code)?;
+    print::number(rt, Reading::Rfc.dictionary(kinds).kind(code, 0))?;
     print::end(rt)
 }
 
 // A number that is no edition has no table.
 fn kind_table(edition: u32) -> [u8; editions::CODES] {
-    let Chosen::Edition(chosen) = Edition::by_number(edition) else {
+    let Some(chosen) = Edition::by_number(edition) else {
         return [0; editions::CODES];
     };
     chosen.kind_table()

@@ -1,5 +1,5 @@
 // Codes: the name of each, and its kind and whether it is a group, in both readings, without a vendor and with one.
-use crate::{names, print};
+use crate::print;
 use attribute::{Attribute, Reading};
 use record::kinds::GROUPED;
 use std::io;
@@ -12,22 +12,20 @@ const VENDOR: u32 = 10415;
 fn new(rt: &impl Print, code: u32) -> io::Result<()> {
     print::label(rt, b"new")?;
     let a = Attribute::new(code);
-    print::number(rt, a.raw as u64)?;
-    let named = a.code;
-    names::name(rt, named)?;
+    print::number(rt, a.raw)?;
+    print!(rt; " {}", a.code)?;
     print::end(rt)
 }
 
 fn read(rt: &impl Print, reading: Reading, kinds: &[u8], code: u32) -> io::Result<()> {
     let a = Attribute::read(reading, code);
-    print::number(rt, a.raw as u64)?;
-    let named = a.code;
-    names::name(rt, named)?;
-    let d = reading.dictionary();
-    let kind = attribute::kind(d, kinds, code, 0);
-    let of_vendor = attribute::kind(d, kinds, code, VENDOR);
-    print::number(rt, kind as u64)?;
-    print::number(rt, of_vendor as u64)?;
+    print::number(rt, a.raw)?;
+    print!(rt; " {}", a.code)?;
+    let d = reading.dictionary(kinds);
+    let kind = d.kind(code, 0);
+    let of_vendor = d.kind(code, VENDOR);
+    print::number(rt, kind)?;
+    print::number(rt, of_vendor)?;
     print::bit(rt, kind == GROUPED)?;
     print::bit(rt, of_vendor == GROUPED)?;
     print::end(rt)

@@ -37,7 +37,7 @@ fn read_message(rt: &impl Print, rfc: bool, limit: usize, store: &mut [u8]) -> i
 fn message(rt: &impl Print, rfc: bool, limit: usize) -> io::Result<()> {
     print::label(rt, b"message")?;
     print::bit(rt, rfc)?;
-    print::number(rt, limit as u64)?;
+    print::number(rt, limit)?;
     read_message(rt, rfc, limit, &mut [LENT; STORE])
 }
 
@@ -50,7 +50,7 @@ fn read_avp(rt: &impl Print, rfc: bool, limit: usize, store: &mut [u8]) -> io::R
 fn avp(rt: &impl Print, rfc: bool, limit: usize) -> io::Result<()> {
     print::label(rt, b"one-avp")?;
     print::bit(rt, rfc)?;
-    print::number(rt, limit as u64)?;
+    print::number(rt, limit)?;
     read_avp(rt, rfc, limit, &mut [LENT; STORE])
 }
 
@@ -67,8 +67,8 @@ fn read_message_by(
 
 fn message_by(rt: &impl Print, edition: u32, limit: usize) -> io::Result<()> {
     print::label(rt, b"message-by")?;
-    print::number(rt, edition as u64)?;
-    print::number(rt, limit as u64)?;
+    print::number(rt, edition)?;
+    print::number(rt, limit)?;
     read_message_by(rt, edition, limit, &mut [LENT; STORE])
 }
 
@@ -80,8 +80,8 @@ fn read_avp_by(rt: &impl Print, edition: u32, limit: usize, store: &mut [u8]) ->
 
 fn avp_by(rt: &impl Print, edition: u32, limit: usize) -> io::Result<()> {
     print::label(rt, b"avp-by")?;
-    print::number(rt, edition as u64)?;
-    print::number(rt, limit as u64)?;
+    print::number(rt, edition)?;
+    print::number(rt, limit)?;
     read_avp_by(rt, edition, limit, &mut [LENT; STORE])
 }
 
@@ -112,10 +112,10 @@ fn find(rt: &impl Print, code: u32) -> io::Result<()> {
     let mut outline = [0u64; OUTLINE];
     tandrekily::tandrekily_find(&P8, code, &mut outline);
     print::label(rt, b"find")?;
-    print::number(rt, code as u64)?;
-    print::outline(rt, &outline)?;
+    print::number(rt, code)?;
+    print::result(rt, &outline)?;
     tandrekily::tandrekily_find(&BROKEN, code, &mut outline);
-    print::outline(rt, &outline)?;
+    print::result(rt, &outline)?;
     print::end(rt)
 }
 
@@ -123,9 +123,9 @@ fn next(rt: &impl Print, place: usize) -> io::Result<()> {
     let mut outline = [0u64; OUTLINE];
     let past = tandrekily::tandrekily_next(&P8, place, &mut outline);
     print::label(rt, b"next")?;
-    print::number(rt, place as u64)?;
-    print::number(rt, past as u64)?;
-    print::outline(rt, &outline)?;
+    print::number(rt, place)?;
+    print::number(rt, past)?;
+    print::result(rt, &outline)?;
     print::end(rt)
 }
 
@@ -150,8 +150,8 @@ fn shift(rt: &impl Print, table: &mut [u8], bytes: usize, records: usize) -> io:
     let mut result = [0u64; RESULT];
     tandrekily::tandrekily_shift(table, bytes, records, &mut result);
     print::label(rt, b"shift")?;
-    print::number(rt, bytes as u64)?;
-    print::number(rt, records as u64)?;
+    print::number(rt, bytes)?;
+    print::number(rt, records)?;
     show(rt, &result, table)
 }
 
@@ -185,12 +185,12 @@ fn compare(
         &mut order,
     );
     print::label(rt, b"compare")?;
-    print::signed(rt, digits)?;
-    print::signed32(rt, exponent)?;
-    print::signed(rt, other_digits)?;
-    print::signed32(rt, other_exponent)?;
-    print::number(rt, number as u64)?;
-    print::signed32(rt, order)?;
+    print::number(rt, digits)?;
+    print::number(rt, exponent)?;
+    print::number(rt, other_digits)?;
+    print::number(rt, other_exponent)?;
+    print::number(rt, number)?;
+    print::number(rt, order)?;
     print::end(rt)
 }
 

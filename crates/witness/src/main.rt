@@ -6,7 +6,6 @@ mod bits;
 mod by_edition;
 mod codes;
 mod library;
-mod names;
 mod numbers;
 mod packets;
 mod print;

@@ -1,7 +1,7 @@
 // Lengths, signed numbers and refusals.
 use crate::print;
 use header::Header;
-use octets::at_hand::Available;
+use octets::at_hand::Absent;
 use refusal::Refusal;
 use std::io;
 
@@ -17,20 +17,20 @@ fn stated(rt: &impl Print, length: u32) -> io::Result<()> {
         end_id: 0,
     };
     print::label(rt, b"stated")?;
-    print::number(rt, length as u64)?;
-    print::number(rt, h.length() as u64)?;
+    print::number(rt, length)?;
+    print::number(rt, h.length())?;
     print::end(rt)
 }
 
 fn at_hand(rt: &impl Print, length: usize, available: usize) -> io::Result<()> {
     print::label(rt, b"length")?;
-    print::number(rt, length as u64)?;
-    print::number(rt, available as u64)?;
+    print::number(rt, length)?;
+    print::number(rt, available)?;
     match octets::at_hand::length(length, available) {
-        Available::Enough => print::word(rt, b"enough")?,
-        Available::Absent(n) => {
+        Ok(()) => print::word(rt, b"enough")?,
+        Err(Absent(n)) => {
             print::word(rt, b"absent")?;
-            print::number(rt, n as u64)?;
+            print::number(rt, n)?;
         }
     }
     print::end(rt)
@@ -39,25 +39,25 @@ fn at_hand(rt: &impl Print, length: usize, available: usize) -> io::Result<()> {
 // An Enumerated, and a Time in Unix seconds, by the crate and by the library.
 fn signed(rt: &impl Print, bits: u32) -> io::Result<()> {
     print::label(rt, b"signed")?;
-    print::number(rt, bits as u64)?;
-    print::signed(rt, signed::signed_enumerated(bits))?;
-    print::signed(rt, signed::unix_seconds(bits))?;
-    print::signed(rt, tandrekily::tandrekily_unix_seconds(bits))?;
+    print::number(rt, bits)?;
+    print::number(rt, signed::signed_enumerated(bits))?;
+    print::number(rt, signed::unix_seconds(bits))?;
+    print::number(rt, tandrekily::tandrekily_unix_seconds(bits))?;
     print::end(rt)
 }
 
 // By the library, which asks the crate.
 fn integer32(rt: &impl Print, bits: u32) -> io::Result<()> {
     print::label(rt, b"integer32")?;
-    print::number(rt, bits as u64)?;
-    print::signed32(rt, tandrekily::tandrekily_integer32(bits))?;
+    print::number(rt, bits)?;
+    print::number(rt, tandrekily::tandrekily_integer32(bits))?;
     print::end(rt)
 }
 
 fn integer64(rt: &impl Print, bits: u64) -> io::Result<()> {
     print::label(rt, b"integer64")?;
     print::number(rt, bits)?;
-    print::signed(rt, tandrekily::tandrekily_integer64(bits))?;
+    print::number(rt, tandrekily::tandrekily_integer64(bits))?;
     print::end(rt)
 }
 
@@ -77,8 +77,8 @@ fn integers(rt: &impl Print) -> io::Result<()> {
 
 fn refusal(rt: &impl Print, why: Refusal) -> io::Result<()> {
     print::label(rt, b"refusal")?;
-    print::number(rt, why.number() as u64)?;
-    print::number(rt, why.amount() as u64)?;
+    print::number(rt, why.number())?;
+    print::number(rt, why.amount())?;
     print::end(rt)
 }
 

@@ -18,7 +18,7 @@ const TABLE: [u8; Record::SIZE] =
 const LENT: u8 = 0xA5;
 
 fn show(rt: &impl Print, res: &[u64; RESULT], lent: &[u8]) -> io::Result<()> {
-    print::packet(rt, res)?;
+    print::result(rt, res)?;
     print::word(rt, b"leaves")?;
     print::bytes(rt, lent)
 }

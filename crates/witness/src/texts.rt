@@ -10,8 +10,8 @@ fn utf8(rt: &impl Print, text: &[u8]) -> io::Result<()> {
     let value = read.value;
     print::label(rt, b"utf8")?;
     print::bit(rt, tandrekily::tandrekily_is_utf8(text))?;
-    print::number(rt, tandrekily::tandrekily_utf8(text) as u64)?;
-    print::number(rt, value.kind() as u64)?;
+    print::number(rt, tandrekily::tandrekily_utf8(text))?;
+    print::number(rt, value.kind())?;
     print::bytes(rt, text)?;
     print::end(rt)
 }

@@ -4,8 +4,8 @@ use std::io;
 
 fn of_type(rt: &impl Print, code: u8) -> io::Result<()> {
     print::label(rt, b"radius")?;
-    print::number(rt, code as u64)?;
-    print::number(rt, radius_value::types::kind(code) as u64)?;
+    print::number(rt, code)?;
+    print::number(rt, radius_value::types::kind(code))?;
     print::end(rt)
 }
 

@@ -1,3 +1,2 @@
-mod Turned
-mod Words
-pub mod LastFirst
+pub mod Absent
+pub mod Part

@@ -1,4 +1,5 @@
--- The message of a table that keeps the rules: the whole table is one run, and its AVPs are put first and the header before them.
+-- The message of a table that keeps the rules: the whole table is one run, and its AVPs are put first and the header
+-- before them.
 use Prim.Native.Nat.{ℕ, ◌+◌, ◌-◌, ◌≤◌}
 use mathlib.Core.Path.{◌≡◌, refl, ap, ◌∙◌}
 use mathlib.Core.List.{List, ◌++◌}
@@ -36,7 +37,8 @@ module _ (f : Fields) (table pool : List ℕ) (v : Valid 1 (length pool) (table_
   unfolding table_bytes
   message_long = rw (message_length_lem, run_all (length pool) table v)
 
-  message_is : (n : ℕ) → length (table_bytes f table pool) ≡ n → pack (header_fields f n) ++ forest_bytes pool (run 1 table) ≡ table_bytes f table pool
+  message_is : (n : ℕ) → length (table_bytes f table pool) ≡ n
+      → pack (header_fields f n) ++ forest_bytes pool (run 1 table) ≡ table_bytes f table pool
   unfolding table_bytes message_bytes
   message_is n e =
       let z : n ≡ 20 + length (forest_bytes pool (run 1 table)) = omega (arith, message_long) in
@@ -45,7 +47,8 @@ module _ (f : Fields) (table pool : List ℕ) (v : Valid 1 (length pool) (table_
 
   -- the AVPs first, into the part after the header, and then the header
   pub message_put : (t : Taken) (before back last : List ℕ) (n : ℕ) → 20 ≤ length before → length (table_bytes f table pool) ≡ n
-      → Done (run 1 table) pool t (drop 20 before) back → last ≡ over (pack (header_fields f n)) (put_mid 20 (length before - 20) before back)
+      → Done (run 1 table) pool t (drop 20 before) back
+      → last ≡ over (pack (header_fields f n)) (put_mid 20 (length before - 20) before back)
       → last ≡ over (table_bytes f table pool) before
   message_put t before back last n room e d put =
       put

@@ -1,5 +1,5 @@
--- What is put part by part is the bytes of the definition over the front of the output: of an AVP that is no group its header, its data
--- and its padding, one after the other.
+-- What is put part by part is the bytes of the definition over the front of the output: of an AVP that is no group its
+-- header, its data and its padding, one after the other.
 use Prim.Native.Nat.{ℕ, ◌+◌, ◌-◌, ◌≤◌}
 use mathlib.Core.Path.{◌≡◌, sym, ap, ◌∙◌}
 use mathlib.Core.List.{List, [], ◌++◌, append_assoc, append-nil}

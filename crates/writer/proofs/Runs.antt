@@ -1,5 +1,5 @@
--- What a loop over a run of a table has put so far, and a record with its members: the members' bytes are put into the part of the
--- output after the header, and the header before them.
+-- What a loop over a run of a table has put so far, and a record with its members: the members' bytes are put into the
+-- part of the output after the header, and the header before them.
 use Prim.Native.Nat.{ℕ, ◌+◌, ◌-◌, ◌≤◌}
 use mathlib.Core.Path.{◌≡◌, refl, sym, ap, ◌∙◌}
 use mathlib.Core.List.{List, [], ◌++◌, append_assoc, append-nil}
@@ -38,7 +38,8 @@ pub none_put : {pool : List ℕ} {depth : ℕ} {s out : List ℕ} → Valid dept
 none_put {out = out} v =
     record { passed = none_passed v; put = []; size_is = refl; bytes_are = refl; out_is = sym (over_none out) }
 
-pub one_put : {pool : List ℕ} {depth : ℕ} {f : Forest} {table : List ℕ} {n b : ℕ} {r : Record} {before now : List ℕ} {t : Taken} {back : List ℕ}
+pub one_put : {pool : List ℕ} {depth : ℕ} {f : Forest} {table : List ℕ} {n b : ℕ} {r : Record} {before now : List ℕ}
+    {t : Taken} {back : List ℕ}
     → Step pool depth f table n b r → Going pool depth f (from table n) n b before now
     → Done (one (from table n)) pool t (drop b now) back
     → Going pool depth f (from table (n + t.records)) (n + t.records) (b + t.size) before (put_mid b (length now - b) now back)
@@ -98,4 +99,9 @@ module _ (pool : List ℕ) {s : List ℕ} {r : Record} (a : AtFront (length pool
 
   pub leaf_done : (r.kind ≡ grouped → ⊥) → {n : ℕ} {before last : List ℕ} → Put n (avp_bytes r (data_in pool r)) before last
       → Done (one s) pool (record { records = 1; size = n }) before last
-  leaf_done e p = record { records_are = sym (a.alone e); size_is = rw (leaf_bytes e) p.size_is; out_is = rw (leaf_bytes e) p.out_is }
+  leaf_done e p =
+      record {
+        records_are = sym (a.alone e);
+        size_is = rw (leaf_bytes e) p.size_is;
+        out_is = rw (leaf_bytes e) p.out_is;
+      }

@@ -1,5 +1,5 @@
--- The front of a table, as the cycle that writes meets it: the record there with its members, and a loop over a run of the table, which
--- passes a record with its members in each turn.
+-- The front of a table, as the cycle that writes meets it: the record there with its members, and a loop over a run of
+-- the table, which passes a record with its members in each turn.
 use Prim.Native.Nat.{ℕ, ◌+◌, ◌-◌, ◌*◌, ◌/◌, ◌≤◌, ◌<◌}
 use mathlib.Core.Path.{◌≡◌, ap, ◌∙◌}
 use mathlib.Core.List.{List, append-nil}
@@ -112,7 +112,9 @@ module _ (table : List ℕ) (n : ℕ) (r : Record) (more : n < length table / re
       let t = turn depth (length pool) s here_long p.valid (omega arith) in
       let same : r.depth ≡ depth = omega (arith, t.depth_is) in
       let e : next * record_size ≡ n * record_size + count (one s) * record_size = omega arith in
-      let after : drop (count (one s) * record_size) s ≡ from table next = rw (e, drop-drop (count (one s) * record_size) (n * record_size) table) in
+      let after : drop (count (one s) * record_size) s ≡ from table next =
+      rw (e, drop-drop (count (one s) * record_size) (n * record_size) table)
+      in
       let all : run depth s ≡ node r (members depth s) (run depth (from table next)) = rw (here_is, ← after) t.run_is in
       let first : one s ≡ node r (members depth s) none = rw here_is t.one_is in
       let sum : bytes_size pool (run depth s) ≡ bytes_size pool (one s) + bytes_size pool (run depth (from table next)) =

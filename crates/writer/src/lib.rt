@@ -5,16 +5,16 @@
 mod emit;
 
 ghost use Rattle.std.specs.Prelude.{◌≡◌, length};
-ghost use Rattle.record.specs.Written.{answer_of};
+ghost use Rattle.refusal.specs.Answer.{answer_of};
 ghost use Rattle.header.specs.Parsed.{header_as};
 ghost use Rattle.rfc6733.specs.Writer.{written, header_with};
 ghost use Rattle.writer.specs.Answers.{fields_as, output_after};
 
 use header::Header;
-use record::written::Written;
+use refusal::Refusal;
 
 /// The header fields of a message to be written; the version is 1 and the length is computed.
-#[derive(Clone, Copy)]
+#[derive(Clone, Copy, Debug, PartialEq, Eq)]
 pub struct Fields {
     pub flags: u8,
     pub code: u32,
@@ -25,6 +25,7 @@ pub struct Fields {
 
 impl Fields {
     // The header of a message of `n` bytes.
+    #[tactic(auto, unfolding(header::specs::Parsed::header_as, crate::specs::Answers::fields_as))]
     fn header(self, n: u32) -> Header
         ensures { header_as result ≡ header_with 1 (fields_as self) n }
     {
@@ -40,16 +41,13 @@ impl Fields {
     }
 }
 
-/// Writes the message of a table to the front of `out`. The records' data stand in `pool`.
-pub fn write(fields: Fields, table: &[u8], pool: &[u8], out: &mut [u8]) -> Written
+/// Writes the message of a table to the front of `out`, and answers how many bytes. The records' data stand in `pool`.
+pub fn write(fields: Fields, table: &[u8], pool: &[u8], out: &mut [u8]) -> Result<usize, Refusal>
     ensures answer { answer_of result ≡ written (fields_as fields) table.now pool.now (length out.old) }
     ensures out { out.new ≡ output_after (fields_as fields) table.now pool.now out.old result }
 {
-    let answer = writable::answer(fields.code, table, pool.len(), out.len());
-    let Written::Accepted(total) = answer else {
-        return answer;
-    };
+    let total = writable::answer(fields.code, table, pool.len(), out.len())?;
     emit::emit_run(table, pool, 1, &mut out[Header::SIZE..]);
     heads::put_header(fields.header(total as u32), &mut out[..Header::SIZE]);
-    Written::Accepted(total)
+    Ok(total)
 }

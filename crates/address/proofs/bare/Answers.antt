@@ -1,25 +1,18 @@
 -- `bare` meets its contract: its two tests are those of the definition, on the same length.
 use native.Mathlib.Omega.{arith}
-use lib.ListN.{length}
-use borrow.Author.Tests.{eq-eqb, ne_eqb}
+use Rattle.std.proofs.lemmas.Bool.Decides.{nat_tests}
 use Rattle.rfc6733.specs.Dictionary.{bare_address}
 use Rattle.address.proofs.Shown.{bad_length, ipv4, ipv6}
 use Rattle.address.proofs.bare.Goals as goal
 
-pub returns-then-size-eq-V4_SIZE : goal.returns-then-size-eq-V4_SIZE
+pub returns-in-4 : goal.returns-in-4
 unfolding bare_address
-returns-then-size-eq-V4_SIZE c =
-    let s = c.args.«data».now in
-    rw (eq-eqb (length s) 4 (omega arith), ← c.be_u32.ensures) (ipv4 s _ (omega arith))
+returns-in-4 c = ipv4 _ _ (grind (arith, nat_tests)) (omega arith)
 
-pub returns-then-size-eq-V6_SIZE : goal.returns-then-size-eq-V6_SIZE
+pub returns-in-16 : goal.returns-in-16
 unfolding bare_address
-returns-then-size-eq-V6_SIZE c =
-    let s = c.args.«data».now in
-    rw (ne_eqb (length s) 4 (λ e. omega arith), eq-eqb (length s) 16 (omega arith)) (ipv6 s (omega arith))
+returns-in-16 c = ipv6 _ (grind (arith, nat_tests)) (omega arith)
 
-pub returns : goal.returns
+pub returns-in_default : goal.returns-in_default
 unfolding bare_address
-returns c =
-    let s = c.args.«data».now in
-    rw (ne_eqb (length s) 4 (λ e. omega arith), ne_eqb (length s) 16 (λ e. omega arith)) (bad_length s)
+returns-in_default c = bad_length _ (grind (arith, nat_tests))

@@ -5,17 +5,16 @@ use Rattle.refusal.specs.Answer.{refused}
 use Rattle.record.specs.Store.{stored}
 use Rattle.rfc6733.proofs.Editions.{alone_by, alone_by_none}
 use Rattle.editions.proofs.Dictionaries.{chosen_none, number_by_table}
-use Rattle.avps.specs.Answers.{answer_of}
 use Rattle.avp_alone.proofs.parse_avp_by.Goals as goal
 
 pub returns-in_default : goal.returns-in_default
-unfolding answer_of stored
+unfolding stored
 returns-in_default c =
     let none = chosen_none _ (sym c.by_number.ensures ∙ c.in_default.is) in
     record { answer = ap refused c.no_edition.ensures ∙ alone_by_none _ _ _ _ none; store = refl }
 
 pub returns : goal.returns
 returns c =
-    let is = sym c.by_number.ensures ∙ c.in-Edition.is in
-    let known = number_by_table _ _ is c.dictionary.ensures c.kind_table-kinds.ensures in
+    let is = sym c.by_number.ensures ∙ c.in-Some.is in
+    let known = number_by_table _ _ _ is c.dictionary.ensures c.kind_table-kinds.ensures in
     record { answer = (rw known.1 at c.parse_avp_in.ensures.answer) ∙ alone_by _ _ _ _ known.0; store = rw known.1 at c.parse_avp_in.ensures.store }

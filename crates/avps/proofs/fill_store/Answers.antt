@@ -8,13 +8,13 @@ use Rattle.record.specs.Parents.{top_level}
 use Rattle.rfc6733.specs.Records.{avps}
 use Rattle.rfc6733.specs.Groups.{member_records}
 use Rattle.rfc6733.proofs.Groups.{parented_members}
-use Rattle.attribute.specs.ByTable.{dictionary_by}
+use Rattle.attribute.specs.ByTable.{dictionary_of}
 use Rattle.avps.proofs.Filling.{records_length}
 use Rattle.avps.proofs.fill_store.Goals as goal
 
 pub returns : goal.returns
 returns c =
-    let D = dictionary_by c.args.d c.args.kinds.now in
+    let D = dictionary_of c.args.d in
     let t = tree (avps D) c.args.s.now in
     let w = c.read_run-ran.ensures in
     let size = records_length D c.args.place 1 top_level 0 t in

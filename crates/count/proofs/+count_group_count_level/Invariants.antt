@@ -5,7 +5,7 @@ use Prim.Native.Nat.{◌+◌, ◌*◌}
 use lib.ListN.{length}
 use Rattle.octets.specs.Run.{tree}
 use Rattle.rfc6733.specs.Records.{avps}
-use Rattle.attribute.specs.ByTable.{dictionary_by}
+use Rattle.attribute.specs.ByTable.{dictionary_of}
 use Rattle.count.proofs.Levels.{Passed}
 use Rattle.count.proofs.+count_group_count_level.Given as goal
 
@@ -17,7 +17,7 @@ decreases-count_level l = 2 * l.left + 1
 
 abbrev pub invariant-count_level-loop-rest : goal.invariant-count_level-loop-rest
 invariant-count_level-loop-rest l =
-    let D = dictionary_by l.d l.kinds in Passed l.left (tree (avps D) l.s) (tree (avps D) l.rest) l.records l.tried
+    let D = dictionary_of l.d in Passed l.left (tree (avps D) l.s) (tree (avps D) l.rest) l.records l.tried
 
 abbrev pub decreases-count_level-loop-rest : goal.decreases-count_level-loop-rest
 decreases-count_level-loop-rest l = length l.rest

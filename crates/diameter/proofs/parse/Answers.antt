@@ -4,4 +4,4 @@ use Rattle.diameter.proofs.parse.Goals as goal
 
 pub returns : goal.returns
 returns c =
-    rw (c.dictionary.ensures, c.kind_table-kinds.ensures, dictionary_by_table _) at c.parse_in.ensures
+    rw (dictionary_by_table _ _ c.dictionary.ensures c.kind_table-kinds.ensures) at c.parse_in.ensures

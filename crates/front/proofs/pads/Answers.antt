@@ -7,4 +7,4 @@ use Rattle.front.proofs.pads.Goals as goal
 
 pub returns : goal.returns
 returns c =
-    ap (λ (w : ℕ). w / 256) c.be_u32.ensures ∙ high_three c.args.p.now (λ i. omega (arith, c.shared_slice_known-1.given i)) 0
+    ap (λ (w : ℕ). w / 256) c.be_u32.ensures ∙ high_three c.args.p.now (λ i. omega (arith, c.type_inv.p i)) 0

@@ -1,13 +1,12 @@
--- `tiles` meets its contract: what is left of the run at `at` tiles exactly where the whole does, since every AVP passed so far was
--- complete. The loop stops where no complete AVP is at the front, or where nothing is left. The measure is what is left.
-use Prim.Native.Nat.{◌-◌, ◌≤◌}
+-- `tiles` meets its contract: what is left of the run tiles exactly where the whole does, since every AVP passed so far was complete. The
+-- measure is what is left.
 use mathlib.Core.Path.{◌≡◌}
-use lib.ListN.{length, drop}
+use lib.ListN.{length}
 use Rattle.rfc6733.specs.Records.{tiling}
 use Rattle.front.proofs.tiles.Given as goal
 
-abbrev pub invariant-loop-at : goal.invariant-loop-at
-invariant-loop-at l = (l.at ≤ length l.s) × (tiling (drop l.at l.s) ≡ tiling l.s)
+abbrev pub invariant-loop-a : goal.invariant-loop-a
+invariant-loop-a l = tiling l.rest ≡ tiling l.s
 
-abbrev pub decreases-loop-at : goal.decreases-loop-at
-decreases-loop-at l = length l.s - l.at
+abbrev pub decreases-loop-a : goal.decreases-loop-a
+decreases-loop-a l = length l.rest

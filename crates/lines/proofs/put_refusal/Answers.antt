@@ -1,12 +1,10 @@
 -- `put_refusal` meets its contract: the word is copied, and the line of number and amount is put after it.
 use Rattle.std.proofs.Common.{[], ◌∷◌, ◌++◌, refl}
-use Rattle.rfc6733.specs.Dump.{refused_word, line}
-use Rattle.refusal.specs.Refusals.{number_of, amount_of}
-use Rattle.lines.proofs.Puts.{front_put, first_passed, all_passed, passed}
+use Rattle.rfc6733.specs.Dump.{refused_word}
+use Rattle.lines.proofs.Puts.{front_put, put_more}
 use Rattle.lines.proofs.put_refusal.Goals as goal
 
 pub returns : goal.returns
 returns c =
     let word = front_put (refused_word ++ (32 ∷ [])) c.args.out.now refl c.copy_from_slice.ensures.after in
-    let first = first_passed (line (number_of c.args.why ∷ amount_of c.args.why ∷ [])) word in
-    all_passed (passed _ [] first c.requires (rw (c.number.ensures, c.amount.ensures) at c.put_line.ensures))
+    put_more word (rw (c.number.ensures, c.amount.ensures) at c.put_line.ensures)

@@ -6,14 +6,17 @@ use mathlib.Core.List.{List}
 use lib.IntN.{ℤ}
 use contract.Lifetimes.{Lfts}
 use denote.Ref.{Bor, MutBor}
+use Rattle.std.specs.Prelude.{⊤, Result}
+use Rattle.promises.proofs.Outcomes.{Compared, Decoded, Filled, FilledAttributes, Found, Shifted, Written}
 use Rattle.attribute.specs.declared.Reading.{Reading}
 use Rattle.attribute.specs.declared.Dictionary.{Dictionary}
-use Rattle.utf8.specs.declared.Utf8.{Utf8}
+use Rattle.utf8.specs.declared.Utf8Error.{Utf8Error}
 use Rattle.utf8.proofs.check.Reads as check
 use Rattle.utf8.proofs.is_utf8.Reads as is_utf8
 use Rattle.record.specs.Record.{Record}
 use Rattle.word.proofs.put_u32.Reads as put_word
 use Rattle.word.proofs.put_u64.Reads as put_long
+use Rattle.word.proofs.put_u8_u24.Reads as put_byte_and_three
 use Rattle.body.proofs.copy.Reads as copy
 use Rattle.body.proofs.put_padding.Reads as put_padding
 use Rattle.header.specs.declared.Header.{Header}
@@ -23,26 +26,19 @@ use Rattle.record.proofs.Record.put.Reads as put
 use Rattle.record.proofs.Record.put_found.Reads as put_found
 use Rattle.record.proofs.Record.put_place_and_parent.Reads as put_place_and_parent
 use Rattle.record.proofs.clear.Reads as clear
-use Rattle.avps.specs.declared.Filled.{Filled}
 use Rattle.avps.proofs.parse_avps.Reads as parse_avps
-use Rattle.diameter.specs.declared.Decoded.{Decoded}
 use Rattle.diameter.proofs.parse.Reads as parse
 use Rattle.avp_alone.proofs.parse_avp.Reads as parse_avp
 use Rattle.diameter.proofs.parse_by.Reads as parse_by
 use Rattle.avp_alone.proofs.parse_avp_by.Reads as parse_avp_by
 use Rattle.signed.proofs.unix_seconds.Reads as unix_seconds
 use Rattle.unit_value.specs.declared.UnitValue.{UnitValue}
-use Rattle.unit_value.specs.declared.Compared.{Compared}
 use Rattle.unit_value.proofs.compare.Reads as compare
 use Rattle.lines.proofs.dump.Reads as dump
-use Rattle.steps.specs.declared.Found.{Found}
 use Rattle.reader.proofs.find.Reads as find
 use Rattle.writer.specs.declared.Fields.{Fields}
-use Rattle.record.specs.declared.written.Written.{Written}
 use Rattle.writer.proofs.write.Reads as write
-use Rattle.rules.specs.declared.shifting.Shifted.{Shifted}
 use Rattle.rules.proofs.shifting.shift.Reads as shift
-use Rattle.radius_attributes.specs.declared.Filled as attributes
 use Rattle.radius_attributes.proofs.parse_attributes.Reads as parse_attributes
 use Rattle.radius.specs.declared.Parsed.{Parsed}
 use Rattle.radius.proofs.parse.Reads as parse_packet
@@ -72,7 +68,7 @@ Slice = Bor (List ℕ)
 abbrev pub MutSlice : Type 0
 MutSlice = MutBor (List ℕ)
 
-abbrev pub Check : Lfts 1 → Slice → Utf8 → Type 0
+abbrev pub Check : Lfts 1 → Slice → Result ⊤ Utf8Error → Type 0
 Check κs s r = check.Post κs (s, tt) r (s, tt)
 
 abbrev pub IsUtf8 : Lfts 1 → Slice → Bool → Type 0
@@ -83,6 +79,9 @@ PutWord κs out v out' = put_word.Post κs (out, (v, tt)) tt (out', (v, tt))
 
 abbrev pub PutLong : Lfts 1 → MutSlice → ℕ → MutSlice → Type 0
 PutLong κs out v out' = put_long.Post κs (out, (v, tt)) tt (out', (v, tt))
+
+abbrev pub PutByteAndThree : Lfts 1 → MutSlice → ℕ → ℕ → MutSlice → Type 0
+PutByteAndThree κs out high low out' = put_byte_and_three.Post κs (out, (high, (low, tt))) tt (out', (high, (low, tt)))
 
 abbrev pub Copy : Lfts 2 → Slice → MutSlice → MutSlice → Type 0
 Copy κs src dst dst' = copy.Post κs (src, (dst, tt)) tt (src, (dst', tt))
@@ -110,9 +109,9 @@ PutPlaceAndParent κs table place parent table' =
 abbrev pub Clear : Lfts 1 → MutSlice → MutSlice → Type 0
 Clear κs store store' = clear.Post κs (store, tt) tt (store', tt)
 
-abbrev pub ParseAvps : Lfts 3 → Dictionary → Slice → ℕ → Slice → ℕ → MutSlice → Filled → MutSlice → Type 0
-ParseAvps κs d kinds limit s place store r store' =
-    parse_avps.Post κs (d, (kinds, (limit, (s, (place, (store, tt)))))) r (d, (kinds, (limit, (s, (place, (store', tt))))))
+abbrev pub ParseAvps : Lfts 3 → Dictionary → ℕ → Slice → ℕ → MutSlice → Filled → MutSlice → Type 0
+ParseAvps κs d limit s place store r store' =
+    parse_avps.Post κs (d, (limit, (s, (place, (store, tt))))) r (d, (limit, (s, (place, (store', tt)))))
 
 abbrev pub Parse : Lfts 2 → Reading → ℕ → Slice → MutSlice → Decoded → MutSlice → Type 0
 Parse κs reading limit input store r store' = parse.Post κs (reading, (limit, (input, (store, tt)))) r (reading, (limit, (input, (store', tt))))
@@ -197,7 +196,7 @@ TandrekilyUnixSeconds time r = tandrekily_unix_seconds.Post tt (time, tt) r (tim
 
 -- ---- RADIUS
 
-abbrev pub ParseAttributes : Lfts 2 → Slice → ℕ → MutSlice → attributes.Filled → MutSlice → Type 0
+abbrev pub ParseAttributes : Lfts 2 → Slice → ℕ → MutSlice → FilledAttributes → MutSlice → Type 0
 ParseAttributes κs s place store r store' = parse_attributes.Post κs (s, (place, (store, tt))) r (s, (place, (store', tt)))
 
 abbrev pub ParsePacket : Lfts 2 → Slice → MutSlice → Parsed → MutSlice → Type 0

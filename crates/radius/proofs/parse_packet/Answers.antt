@@ -1,17 +1,15 @@
 -- `parse_packet` meets its contract: the header's refusals are the packet's, and an accepted header leads to `parse_body`, whose contract
 -- is the same.
-use mathlib.Core.Path.{refl, sym, ap, ◌∙◌}
+use native.Mathlib.Omega.{arith}
+use Rattle.std.proofs.lemmas.Grind.{common_steps}
 use Rattle.record.specs.Store.{stored}
-use Rattle.radius.specs.Answers.{length_of, answer_with}
-use Rattle.radius.proofs.Packets.{header_refused}
+use Rattle.rfc2865.specs.Packet.{header_refusals, packet_refusals, decoded}
 use Rattle.radius.proofs.parse_packet.Goals as goal
 
 pub parse_body-requires : goal.parse_body-requires
-unfolding length_of
-parse_body-requires c =
-    record { is = sym (ap length_of (sym c.in-Length.is) ∙ c.measure.ensures) }
+unfolding header_refusals
+parse_body-requires c = grind (arith, common_steps)
 
-pub returns-in-Refused : goal.returns-in-Refused
-unfolding answer_with stored
-returns-in-Refused c =
-    record { answer = header_refused _ _ _ (ap length_of (sym c.in-Refused.is) ∙ c.measure.ensures); store = refl }
+pub returns-in_err-measure : goal.returns-in_err-measure
+unfolding header_refusals packet_refusals decoded stored
+returns-in_err-measure c = record { answer = grind (arith, common_steps); store = grind (arith, common_steps) }

@@ -1,38 +1,27 @@
 -- `read_attribute` meets its contract: the attribute's length is that of its own bytes, so what is after its two first bytes is its
--- value, and the record that is put is the definition's (`one_put`).
-use Prim.Native.Nat.{ℕ, ◌-◌, ◌≤◌}
-use mathlib.Core.Path.{ap, ◌∙◌}
-use mathlib.Core.List.{List}
-use native.Mathlib.Omega.{arith}
-use lib.ListN.{length, take, drop}
-use Rattle.rfc2865.specs.Records.{data_as}
-use Rattle.rfc2865.proofs.Items.{complete_whole}
-use Rattle.radius_attributes.specs.Fill.{Own}
-use Rattle.radius_attributes.proofs.OneRecord.{one_put}
+-- value, and the record that is put is the definition's.
+use mathlib.Core.Path.{◌≡◌, ap, ◌∙◌}
+use Rattle.octets.proofs.Numbers.{one_byte}
+use Rattle.record.specs.Value as values
+use Rattle.record.proofs.Room.{put_with_room}
+use Rattle.rfc2865.specs.Attribute.{payload}
+use Rattle.rfc2865.specs.Records.{value_of, record_of}
+use Rattle.radius_value.specs.Values.{value_as}
 use Rattle.radius_attributes.proofs.read_attribute.Goals as goal
+use Rattle.radius_attributes.proofs.read_attribute.Goals.{After-read-value}
 
--- type and length are there
-two : {place : ℕ} {s : List ℕ} → Own place s → 2 ≤ length s
-two o = omega (arith, (complete_whole _ o.whole).least, o.length_is)
-
-pub bounds-s-0 : goal.bounds-s-0
-bounds-s-0 c = omega (arith, two c.requires.own)
-
-pub slice_bounds-read-count : goal.slice_bounds-read-count
-slice_bounds-read-count c = two c.requires.own
-
-pub slice_bounds-read-start : goal.slice_bounds-read-start
-slice_bounds-read-start c = omega (arith, two c.requires.own)
-
-pub overflow_cast-code : goal.overflow_cast-code
-overflow_cast-code c = omega (arith, c.type_inv.s 0)
-
-pub overflow_cast-place : goal.overflow_cast-place
-overflow_cast-place c = omega (arith, two c.requires.own, c.requires.own.places_fit)
+-- the value is that of the attribute
+value_is : (c : After-read-value) → value_as c.read-value.result ≡ value_of c.args.s.now
+unfolding value_of payload
+value_is c = rw (one_byte c.args.s.now 0, c.requires.own.length_is) (rw (c.kind.ensures) at c.read-value.ensures)
 
 pub returns : goal.returns
+unfolding record_of
 returns c =
-    let s = c.args.s.now in
-    one_put c.requires.own c.read-value.result c.requires.record_size_in_bounds
-    (c.read-value.ensures ∙ ap (λ (k : ℕ). data_as k (take (length s - 2) (drop 2 s))) c.kind.ensures)
-    c.put.ensures.store
+    let value = value_is (goal.at.returns c).After-read-value in
+    record {
+      errors_are = ap (λ (x : values.Value). x.errors) value;
+      store_is =
+          rw (← value, one_byte c.args.s.now 0, c.requires.own.length_is)
+          (c.put.ensures.store ∙ put_with_room _ c.args.store.now c.requires.record_size_in_bounds);
+    }

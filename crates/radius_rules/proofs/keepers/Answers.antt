@@ -1,33 +1,30 @@
--- `keepers` meets its contract: a record that keeps the rules is one more, and one that breaks them is none.
-use Prim.Native.Nat.{◌+◌}
-use mathlib.Core.Path.{◌≡◌, sym, ap, ◌∙◌}
-use mathlib.Core.List.{◌∷◌}
+-- `keepers` meets its contract: the chunks are the table's records, and those in front that keep the rules are counted.
+use Prim.Native.Nat.{ℕ, suc, ◌+◌}
+use mathlib.Core.Path.{◌≡◌, refl, ◌∙◌}
+use mathlib.Core.List.{List, [], ◌∷◌}
 use native.Mathlib.Omega.{arith}
+use Rattle.std.specs.List.{prefix_len}
+use Rattle.std.proofs.Common.{rules, tests}
+use Rattle.std.proofs.lemmas.Iterator.Consumers.{YieldsList-at, count_from_yields_List}
+use Rattle.std.proofs.lemmas.Iterator.Search.{YieldsList-from_take_while}
+use Rattle.std.proofs.lemmas.List.Folds.{length-prefix_len}
+use Rattle.record.specs.Record.{Record}
 use Rattle.record.specs.Table.{table_of}
-use Rattle.rfc2865.specs.Writer.{keepers}
-use Rattle.record.proofs.Steps.{from, none_left, next}
+use Rattle.record.proofs.Chunks.{rows}
+use Rattle.rfc2865.specs.Writer.{keeps, keepers}
 use Rattle.radius_rules.proofs.keepers.Goals as goal
-use Rattle.radius_rules.proofs.keepers.Goals.{After-get-r}
 
--- those that keep the rules from the record that was read on
-from_here : (c : After-get-r)
-    → let available = c.args.available in
-    let table = c.args.table.now in
-    keepers available (table_of (from table c.loop-kept.kept))
-    ≡ keepers available (c.get-r.result ∷ table_of (from table (c.loop-kept.kept + 1)))
-from_here c = ap (keepers c.args.available) (next c.args.table.now c.loop-kept.kept (omega arith) c.get-r.ensures)
-
-pub returns-then-not-keeps : goal.returns-then-not-keeps
-returns-then-not-keeps c =
-    let broken = sym c.keeps.ensures ∙ c.if-not-keeps.true in
-    omega (arith, c.loop-kept.invariant.1, rw broken at (from_here (goal.at.returns-then-not-keeps c).After-get-r))
-
-pub loop-kept-preserved : goal.loop-kept-preserved
-loop-kept-preserved c =
-    let kept = sym c.keeps.ensures ∙ c.if-not-keeps.false in
-    (omega arith, omega (arith, c.loop-kept.invariant.1, rw kept at (from_here (goal.at.loop-kept-preserved c).After-get-r)))
+in_front : (n : ℕ) (rs : List Record) → prefix_len (keeps n) rs ≡ keepers n rs
+in_front n [] = refl
+in_front n (r ∷ rs) = let one : 1 + keepers n rs ≡ suc (keepers n rs) = omega arith in rw (in_front n rs, one)
 
 pub returns : goal.returns
 returns c =
-    let end = ap (keepers c.args.available) (none_left c.args.table.now c.loop-kept.kept (omega arith)) in
-    omega (arith, c.loop-kept.invariant.1)
+    let test = keeps c.args.available in
+    let all = table_of c.args.table.now in
+    let chunks = rows c.args.table.now c.chunks_exact.ensures.rest c.chunks_exact.ensures.size in
+    count_from_yields_List _ _ c.count.ensures.ran
+    (YieldsList-from_take_while _ test (YieldsList-at c.take_while.ensures.source chunks) c.take_while.ensures.closure
+    c.take_while.ensures.done (λ x b q k. search (rules, tests)))
+    ∙ length-prefix_len test all
+    ∙ in_front c.args.available all

@@ -4,10 +4,10 @@ use lib.IntN.{ℤ}
 use mir.Syntax.{w32, w64}
 use mir.Val.{SFits, to_z, of_z}
 use mir.ValLaws.{to_z-of_z}
-use Rattle.refusal.specs.Answer.{Answer}
-use Rattle.unit_value.specs.declared.Ordering.{Ordering}
-use Rattle.unit_value.specs.declared.Ordering.TheVariants.{Less, Equal, Greater}
-use Rattle.unit_value.specs.UnitValues.{compared, answer_of}
+use Rattle.refusal.specs.Answer.{Answer, answer_of}
+use Rattle.std.specs.declared.cmp.Ordering.{Ordering}
+use Rattle.std.specs.declared.cmp.Ordering.TheVariants.{Less, Equal, Greater}
+use Rattle.unit_value.specs.UnitValues.{compared}
 use Rattle.results.specs.Results.{sign_of}
 use Rattle.tandrekily.specs.Asked.{compared_given, number_shown, order_shown}
 use Rattle.tandrekily.proofs.tandrekily_compare.Goals as goal
@@ -26,7 +26,6 @@ answered : (c : After-compare) → let b = c.args in
 answered c = let f = c.ranges in c.compare.ensures ∙ held _ _ _ _ f.digits f.exponent f.other_digits f.other_exponent
 
 sign_held : (o : Ordering) → to_z w32 (of_z w32 (sign_of o)) ≡ sign_of o
-unfolding sign_of
 sign_held Less = refl
 sign_held Equal = refl
 sign_held Greater = refl
@@ -35,19 +34,19 @@ sign_held Greater = refl
 abbrev order_by : After-compare → Answer Ordering → ℤ
 order_by c x = order_shown x c.args.order.now
 
-pub returns-in-Is : goal.returns-in-Is
-unfolding number_shown order_shown answer_of
-returns-in-Is c =
-    let a = (goal.at.returns-in-Is c).After-compare in
-    let e = ap answer_of (sym c.in-Is.is) ∙ answered a in
+pub returns-in-Ok : goal.returns-in-Ok
+unfolding number_shown order_shown
+returns-in-Ok c =
+    let a = (goal.at.returns-in-Ok c).After-compare in
+    let e = ap answer_of (sym c.in-Ok.is) ∙ answered a in
     record {
       number = ap number_shown e;
       order = ap (λ (z : ℤ). to_z w32 (of_z w32 z)) c.sign_of.ensures ∙ sign_held _ ∙ ap (order_by a) e;
     }
 
-pub returns-in-Refused : goal.returns-in-Refused
-unfolding number_shown order_shown answer_of
-returns-in-Refused c =
-    let a = (goal.at.returns-in-Refused c).After-compare in
-    let e = ap answer_of (sym c.in-Refused.is) ∙ answered a in
+pub returns-in-Err : goal.returns-in-Err
+unfolding number_shown order_shown
+returns-in-Err c =
+    let a = (goal.at.returns-in-Err c).After-compare in
+    let e = ap answer_of (sym c.in-Err.is) ∙ answered a in
     record { number = c.number.ensures ∙ ap number_shown e; order = ap (order_by a) e }

@@ -11,7 +11,7 @@ use Rattle.octets.proofs.Lists.{rest}
 use Rattle.record.specs.Record.{Record, record_size}
 use Rattle.record.specs.Store.{put}
 use Rattle.rfc6733.specs.Avp.{complete}
-use Rattle.attribute.specs.ByTable.{dictionary_by}
+use Rattle.attribute.specs.ByTable.{dictionary_of}
 use Rattle.attribute.proofs.Dictionaries.{kind_is_known}
 use Rattle.value.specs.Values.{Shows, new_value}
 use Rattle.front.specs.Front.{avp_of}
@@ -28,7 +28,7 @@ use Rattle.avps.proofs.fill.+read_avp_read_run_read_value.Goals.{read_avp-After-
 
 pub read_avp-own_record-requires : goal.read_avp-own_record-requires
 read_avp-own_record-requires t c =
-    let D = dictionary_by c.args.d c.args.kinds.now in
+    let D = dictionary_of c.args.d in
     let x = c.requires.a_value.1 in
     let o = opened c.requires.a_value.0 x c.header_size-from.ensures in
     placed D o x (λ i. omega (arith, c.type_inv.s i)) refl c.requires.room
@@ -36,13 +36,13 @@ read_avp-own_record-requires t c =
 pub read_avp-slice_bounds-put-end : goal.read_avp-slice_bounds-put-end
 read_avp-slice_bounds-put-end t c =
     let x = c.requires.a_value.1 in
-    room_for_own (dictionary_by c.args.d c.args.kinds.now) (opened c.requires.a_value.0 x c.header_size-from.ensures) x c.requires.room
+    room_for_own (dictionary_of c.args.d) (opened c.requires.a_value.0 x c.header_size-from.ensures) x c.requires.room
 
 pub read_avp-slice_bounds-put-end-2 : goal.read_avp-slice_bounds-put-end-2
 read_avp-slice_bounds-put-end-2 t c =
     let x = c.requires.a_value.1 in
     sym (length-take-le record_size c.args.store.now
-    (room_for_own (dictionary_by c.args.d c.args.kinds.now) (opened c.requires.a_value.0 x c.header_size-from.ensures) x c.requires.room))
+    (room_for_own (dictionary_of c.args.d) (opened c.requires.a_value.0 x c.header_size-from.ensures) x c.requires.room))
 
 pub read_avp-slice_bounds-read_value-count : goal.read_avp-slice_bounds-read_value-count
 read_avp-slice_bounds-read_value-count t c =
@@ -65,7 +65,7 @@ stands : (t : ℕ) (c : read_avp-After-put t) → Stands c.put.new.store c.args.
 stands t c =
     let x = c.requires.a_value.1 in
     let o = opened c.requires.a_value.0 x c.header_size-from.ensures in
-    let room = room_for_own (dictionary_by c.args.d c.args.kinds.now) o x c.requires.room in
+    let room = room_for_own (dictionary_of c.args.d) o x c.requires.room in
     let first = c.put.ensures.store ∙ ap (λ (r : Record). put r (take record_size c.args.store.now)) c.own_record.ensures in
     record { room = room; as_long = standing_length _ c.args.store.now c.put.new.store room first }
 
@@ -77,7 +77,7 @@ read_avp-slice_bounds-read_value-start-2 t c = omega (arith, stands t (goal.at.r
 
 pub read_avp-read_value-value-requires : goal.read_avp-read_value-value-requires
 read_avp-read_value-value-requires t c =
-    let D = dictionary_by c.args.d c.args.kinds.now in
+    let D = dictionary_of c.args.d in
     let x = c.requires.a_value.1 in
     let o = opened c.requires.a_value.0 x c.header_size-from.ensures in
     let st = stands t (goal.at.read_avp-read_value-value-requires t c).After-put in (
@@ -101,7 +101,7 @@ read_avp-slice_bounds-put_found-end-2 t c =
 
 pub read_avp-returns : goal.read_avp-returns
 read_avp-returns t c =
-    let D = dictionary_by c.args.d c.args.kinds.now in
+    let D = dictionary_of c.args.d in
     let x = c.requires.a_value.1 in
     let o = opened c.requires.a_value.0 x c.header_size-from.ensures in
     let first = c.put.ensures.store ∙ ap (λ (r : Record). put r (take record_size c.args.store.now)) c.own_record.ensures in
@@ -109,7 +109,7 @@ read_avp-returns t c =
 
 pub read_avp-overflow_add-result : goal.read_avp-overflow_add-result
 read_avp-overflow_add-result t c =
-    let D = dictionary_by c.args.d c.args.kinds.now in
+    let D = dictionary_of c.args.d in
     let x = c.requires.a_value.1 in
     let o = opened c.requires.a_value.0 x c.header_size-from.ensures in
     let first = c.put.ensures.store ∙ ap (λ (r : Record). put r (take record_size c.args.store.now)) c.own_record.ensures in
@@ -146,7 +146,7 @@ read_run-slice_bounds-read_avp-end t c =
 pub read_run-read_avp-one-requires : goal.read_run-read_avp-one-requires
 read_run-read_avp-one-requires t c =
     let u = turn_there t (goal.at.read_run-read_avp-one-requires t c).After-avp-a in
-    let o = own (dictionary_by c.args.d c.args.kinds.now) u in
+    let o = own (dictionary_of c.args.d) u in
     (omega arith, ((o.is, o.exact), room_for_one c.requires.room c.loop-at.invariant.1 o (omega (arith, c.loop-at.invariant.1)) u.fits))
 
 pub read_run-overflow_add-n : goal.read_run-overflow_add-n
@@ -172,24 +172,24 @@ read_run-returns t c =
 
 -- the value is that of the dictionary's kind
 value_shown : (t : ℕ) (c : read_value-After-new_known-read t)
-    → let D = dictionary_by c.args.d c.args.kinds.now in
+    → let D = dictionary_of c.args.d in
     Shows (new_value D.as_address (D.kind c.args.code c.args.vendor) c.args.«data».now) c.args.«data».now c.new_known-read.result
-unfolding dictionary_by
+unfolding dictionary_of
 value_shown t c =
     let a = c.args in
-    rw (known_value (dictionary_by a.d a.kinds.now) a.code a.vendor a.«data».now a.whole c.requires.left_nonzero.1)
-    at (rw (c.kind.ensures, kind_is_known a.d a.kinds.now a.code a.vendor) at c.new_known-read.ensures)
+    rw (known_value (dictionary_of a.d) a.code a.vendor a.«data».now a.whole c.requires.left_nonzero.1)
+    at (rw (c.kind.ensures, kind_is_known a.d a.code a.vendor) at c.new_known-read.ensures)
 
 pub read_value-read_run-members-requires : goal.read_value-read_run-members-requires
 read_value-read_run-members-requires t c =
     let v = value_shown t (goal.at.read_value-read_run-members-requires t c).After-new_known-read in
-    let g = a_group v (other_address _ _ _) (sym c.kind-kind.ensures ∙ c.if-kind-eq-GROUPED.true) in
+    let g = a_group v (other_address _ _) (sym c.kind-kind.ensures ∙ c.if-kind-eq-GROUPED.true) in
     (omega arith, (g.tiles_is, rw g.entered_is at c.requires.room))
 
 pub read_value-returns-then-kind-eq-GROUPED : goal.read_value-returns-then-kind-eq-GROUPED
 read_value-returns-then-kind-eq-GROUPED t c =
     let v = value_shown t (goal.at.read_value-returns-then-kind-eq-GROUPED t c).After-new_known-read in
-    let g = a_group v (other_address _ _ _) (sym c.kind-kind.ensures ∙ c.if-kind-eq-GROUPED.true) in
+    let g = a_group v (other_address _ _) (sym c.kind-kind.ensures ∙ c.if-kind-eq-GROUPED.true) in
     members_written g c.if-kind-eq-GROUPED.true (omega (arith, c.requires.room)) c.read_run-members.ensures
 
 pub read_value-returns : goal.read_value-returns

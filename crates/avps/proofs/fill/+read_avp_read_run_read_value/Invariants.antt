@@ -4,7 +4,7 @@ use Prim.Native.Nat.{◌+◌, ◌-◌, ◌*◌, ◌≤◌}
 use lib.ListN.{length, drop}
 use Rattle.octets.specs.Run.{tree}
 use Rattle.rfc6733.specs.Records.{avps}
-use Rattle.attribute.specs.ByTable.{dictionary_by}
+use Rattle.attribute.specs.ByTable.{dictionary_of}
 use Rattle.avps.specs.Fill.{depth_at}
 use Rattle.avps.proofs.Filling.{Filling}
 use Rattle.avps.proofs.fill.+read_avp_read_run_read_value.Given as goal
@@ -20,7 +20,7 @@ decreases-read_value l = 3 * l.left
 
 abbrev pub invariant-read_run-loop-at : goal.invariant-read_run-loop-at
 invariant-read_run-loop-at l =
-    let D = dictionary_by l.d l.kinds in
+    let D = dictionary_of l.d in
     (l.at ≤ length l.s)
     × Filling D (tree (avps D) l.s) (tree (avps D) (drop l.at l.s)) l.place (l.place + l.at) (depth_at l.left) l.parent l.first l.n l.errors l.initial.store l.store
 

@@ -44,7 +44,7 @@ last_bytes s a w e bytes word =
 
 pub returns : goal.returns
 returns c =
-    last_bytes _ _ _ (ends _ _ c.requires) (λ i. omega (arith, c.shared_slice_known-1.given i)) c.word.ensures
+    last_bytes _ _ _ (ends _ _ c.requires) (λ i. omega (arith, c.type_inv.s i)) c.word.ensures
 
 pub overflow_sub-padding : goal.overflow_sub-padding
 overflow_sub-padding c = omega (arith, ends _ _ c.requires)

@@ -14,7 +14,7 @@ pub returns : goal.returns
 unfolding header_as header_of
 returns c =
     let s = c.args.input.now in
-    let bytes : Bytes s = λ i. omega (arith, c.shared_slice_known-1.given i) in
+    let bytes : Bytes s = λ i. omega (arith, c.type_inv.input i) in
     rw (
       c.be_u32-version_length.ensures ∙ be_take 4 s 4 0 (omega arith),
       c.be_u32-flags_code.ensures ∙ be_part 4 s 4 4 (omega arith),

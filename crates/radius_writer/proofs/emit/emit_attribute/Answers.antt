@@ -1,62 +1,25 @@
--- `emit_attribute` meets its contract: type and length are put, and the data copied behind them. By the rules the two are bytes and the
--- data are in the pool, and the attribute is as long as its record says, so it fits.
+-- `emit_attribute` meets its contract: type and length are copied, and the data behind them.
 use Prim.Native.Nat.{ℕ, ◌+◌, ◌-◌}
 use mathlib.Core.Path.{◌≡◌, refl, ◌∙◌}
-use mathlib.Core.List.{List}
+use mathlib.Core.List.{List, [], ◌∷◌}
 use native.Mathlib.Omega.{arith}
-use lib.ListN.{length, take, drop, set, length-set, length-take, length-drop}
-use Rattle.record.specs.Record.{Record}
-use Rattle.rfc2865.proofs.Rules.{Good, keeps_good}
-use Rattle.radius_writer.specs.Emitting.{Ready}
-use Rattle.radius_writer.proofs.Parts.{part_copied, attribute_put}
+use lib.ListN.{length, take, drop, length-drop}
+use lib.Seq.{length-take-le}
+use Rattle.rfc2865.specs.Attribute.{Head}
+use Rattle.rfc2865.specs.Writer.{stated_data, data_in, attribute_bytes}
+use Rattle.radius_writer.proofs.Parts.{two_put, head_bytes}
 use Rattle.radius_writer.proofs.emit.emit_attribute.Goals as goal
 
-sizes : {r : Record} {pool out : List ℕ} → Ready r pool out → Good (length pool) r
-sizes {r} {pool} ready = keeps_good (length pool) r ready.kept
-
-pub overflow_sub-to : goal.overflow_sub-to
-overflow_sub-to c = omega (arith, sizes c.requires)
-
-pub overflow_add-to : goal.overflow_add-to
-overflow_add-to c = omega (arith, sizes c.requires)
-
-pub overflow_cast-out : goal.overflow_cast-out
-overflow_cast-out c = omega (arith, sizes c.requires)
-
-pub bounds-out-0 : goal.bounds-out-0
-bounds-out-0 c = omega (arith, sizes c.requires, c.requires.fits)
-
-pub overflow_cast-out-2 : goal.overflow_cast-out-2
-overflow_cast-out-2 c = omega (arith, sizes c.requires)
-
-pub bounds-out-1 : goal.bounds-out-1
-bounds-out-1 c = simp length-set (omega (arith, sizes c.requires, c.requires.fits))
-
-pub slice_bounds-copy_from_slice-count : goal.slice_bounds-copy_from_slice-count
-slice_bounds-copy_from_slice-count c = omega (arith, sizes c.requires)
-
-pub slice_bounds-copy_from_slice-start : goal.slice_bounds-copy_from_slice-start
-slice_bounds-copy_from_slice-start c = omega (arith, sizes c.requires)
-
-pub slice_bounds-copy_from_slice-end : goal.slice_bounds-copy_from_slice-end
-slice_bounds-copy_from_slice-end c = simp length-set (omega (arith, sizes c.requires, c.requires.fits))
-
-pub slice_bounds-copy_from_slice-count-2 : goal.slice_bounds-copy_from_slice-count-2
-slice_bounds-copy_from_slice-count-2 c = omega (arith, sizes c.requires)
-
-pub slice_bounds-copy_from_slice-end-2 : goal.slice_bounds-copy_from_slice-end-2
-slice_bounds-copy_from_slice-end-2 c = omega (arith, sizes c.requires)
-
-pub copy_from_slice-requires : goal.copy_from_slice-requires
-copy_from_slice-requires c = simp (length-take, length-drop, length-set) (omega (arith, sizes c.requires, c.requires.fits))
-
 pub returns : goal.returns
+unfolding attribute_bytes
 returns c =
-    let n = sizes c.requires in
     let r = c.args.r in
-    let many = r.place + (r.length - 2) - r.place in
-    let src = take many (drop r.place c.args.pool.now) in
-    let size : length src ≡ r.length - 2 = simp (length-take, length-drop) (omega (arith, n)) in
-    rw c.copy_from_slice.ensures.after
-    (part_copied 2 (r.length - 2) (set (set c.args.out.now 0 r.code) 1 r.length) src size (simp length-set (omega (arith, n, c.requires.fits)))
-    ∙ attribute_put _ _ r n.code_fits n.most (omega (arith, n, c.requires.fits)) refl)
+    let pool = c.args.pool.now in
+    let head : Head = record { code = r.code; length = r.length } in
+    let n : r.place + (r.length - 2) - r.place ≡ stated_data r = omega arith in
+    let size : length (data_in pool r) ≡ stated_data r =
+    length-take-le (stated_data r) (drop r.place pool) (omega (arith, length-drop r.place pool)) in
+    let src : List ℕ = take (r.place + (r.length - 2) - r.place) (drop r.place pool) in
+    rw (c.copy_from_slice.ensures.after, c.copy_from_slice-2.ensures.after)
+    (two_put (r.code ∷ r.length ∷ []) src c.args.out.now 2 (r.length - 2) refl (rw n size)
+    ∙ rw (n, head_bytes head (omega arith) (omega arith)))

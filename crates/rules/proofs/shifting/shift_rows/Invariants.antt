@@ -1,5 +1,5 @@
 -- The records passed are moved, and those from `index` on are as lent. The measure is how many are left.
-use Prim.Native.Nat.{◌-◌, ◌/◌, ◌≤◌}
+use Prim.Native.Nat.{◌/◌, ◌≤◌}
 use mathlib.Core.Path.{◌≡◌}
 use mathlib.Core.Bool.{true}
 use lib.ListN.{length}
@@ -13,6 +13,3 @@ abbrev pub invariant-loop-index : goal.invariant-loop-index
 invariant-loop-index l =
     (l.index ≤ length l.initial.table / record_size) × (l.table ≡ rows_moved l.bytes l.records l.index l.initial.table)
     × (all_fit_shifted l.bytes l.records (table_of (from l.initial.table l.index)) ≡ true)
-
-abbrev pub decreases-loop-index : goal.decreases-loop-index
-decreases-loop-index l = length l.initial.table / record_size - l.index

@@ -1,5 +1,5 @@
--- The cycle of `emit_avp` and `emit_run` meets its contracts. The members of a group are put into the part after its header, and the
--- header before them; its length is theirs and its own size.
+-- The cycle of `emit_avp` and `emit_run` meets its contracts. The members of a group are put into the part after its
+-- header, and the header before them; its length is theirs and its own size.
 use Prim.Native.Nat.{ℕ, ◌+◌, ◌-◌, ◌*◌, ◌≤◌}
 use mathlib.Core.Path.{◌≡◌, refl, sym, ◌∙◌}
 use mathlib.Core.List.{List}

@@ -1,6 +1,6 @@
--- A run is the records put so far, whose bytes stand at the front of the output, and what is left of the table, whose bytes fit what is
--- left of the output. The measure is what is left of the table, twice, and one more for a run: it falls from a run to its records and
--- from a group inwards.
+-- A run is the records put so far, whose bytes stand at the front of the output, and what is left of the table, whose
+-- bytes fit what is left of the output. The measure is what is left of the table, twice, and one more for a run: it
+-- falls from a run to its records and from a group inwards.
 use Prim.Native.Nat.{◌+◌, ◌-◌, ◌*◌, ◌≤◌}
 use mathlib.Core.Path.{◌≡◌}
 use lib.ListN.{length}

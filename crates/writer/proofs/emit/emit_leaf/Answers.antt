@@ -1,5 +1,5 @@
--- `emit_leaf` meets its contract: header, data and padding are put one after the other, each into a part of the output that is as long as
--- it is, and no part that comes back has another length.
+-- `emit_leaf` meets its contract: header, data and padding are put one after the other, each into a part of the output
+-- that is as long as it is, and no part that comes back has another length.
 use Prim.Native.Nat.{ℕ, ◌+◌, ◌-◌, ◌≤◌}
 use mathlib.Core.Path.{◌≡◌, refl, sym, ◌∙◌}
 use mathlib.Core.List.{List, ◌++◌}

@@ -1,0 +1,7 @@
+-- The code joins its tests from the left and the definition from the right.
+use Rattle.std.proofs.Common.{rules}
+use Rattle.rfc3629.proofs.Rows.{row_3, four_rows}
+use Rattle.rfc3629.proofs.is_utf8_3.Goals as goal
+
+pub returns : goal.returns
+returns c = search (rules, row_3, four_rows)

@@ -1,4 +1,0 @@
-mod Sums
-mod Patterns
-pub mod Signs
-pub mod Casts
