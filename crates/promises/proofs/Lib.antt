@@ -10,6 +10,7 @@ pub mod Index
 pub mod Editions
 pub mod UnitValues
 pub mod Utf8
+pub mod Words
 pub mod Times
 pub mod Broken
 pub mod Packets
