@@ -1,9 +1,16 @@
 -- The first n bytes of a list, with 0 for each that is absent. A byte that is absent counts as 0, so what is read from them is read from the list.
-use Rattle.std.proofs.Common.{◌≡◌, ℕ, ◌+◌, ◌<◌, ◌≤◌, List, [], ◌∷◌, ◌++◌, get_or, take, replicate, refl, ap, arith}
+use Rattle.std.proofs.Common.{◌≡◌, ℕ, zero, suc, ◌+◌, ◌<◌, ◌≤◌, length, List, [], ◌∷◌, ◌++◌, get_or, take, replicate, refl, ap, arith}
 use Rattle.std.proofs.lemmas.Grind.{common_steps}
 use mathlib.Core.Path.{ap₂}
+use lib.ListN.{get_or-eq_default}
 use Rattle.octets.specs.Octets.{be, total, unpack, Layout, value_at}
 use Rattle.octets.proofs.Numbers.{be_same}
+
+-- a number whose bytes are all absent
+pub be_absent : (n : ℕ) (s : List ℕ) (i : ℕ) → length s ≤ i → be n s i ≡ 0
+unfolding be
+be_absent zero s i h = refl
+be_absent (suc n) s i h = omega (arith, be_absent n s i h, get_or-eq_default s 0 {n = i + n} (omega arith))
 
 front_byte : (n : ℕ) (s : List ℕ) (i : ℕ) → i < n → get_or (take n (s ++ replicate n 0)) i 0 ≡ get_or s i 0
 front_byte n s i h = grind (arith, common_steps)

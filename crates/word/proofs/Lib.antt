@@ -1,2 +1,4 @@
 pub mod Absent
 pub mod Part
+pub mod Turned
+pub mod LastFirst

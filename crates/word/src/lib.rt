@@ -18,17 +18,30 @@ pub fn front<const N: usize>(s: &[u8]) -> [u8; N]
 }
 
 /// The first four bytes as a number. A byte that is absent counts as 0.
+// By the length: of bytes whose number is not known a copy is a call.
+#[tactic(auto, unfolding(octets::specs::Octets::be))]
 pub fn be_u32(s: &[u8]) -> u32
     ensures { result ≡ be 4 s.now 0 }
 {
-    u32::from_be_bytes(front(s))
+    match *s {
+        [a, b, c, d, ..] => octets::be_u32(a, b, c, d),
+        [a, b, c] => octets::be_u32(a, b, c, 0),
+        [a, b] => octets::be_u32(a, b, 0, 0),
+        [a] => octets::be_u32(a, 0, 0, 0),
+        [] => 0,
+    }
 }
 
 /// The first eight bytes as a number. A byte that is absent counts as 0.
+#[tactic(auto, unfolding(octets::specs::Octets::be))]
 pub fn be_u64(s: &[u8]) -> u64
     ensures { result ≡ be 8 s.now 0 }
 {
-    u64::from_be_bytes(front(s))
+    let high = be_u32(s) as u64 * 0x1_0000_0000;
+    match s {
+        [_, _, _, _, low @ ..] => high + be_u32(low) as u64,
+        _ => high,
+    }
 }
 
 // Puts bytes over the front, if there is room for them.
@@ -44,14 +57,14 @@ fn put(out: &mut [u8], bytes: &[u8])
 pub fn put_u32(out: &mut [u8], v: u32)
     ensures { out.new ≡ put_word v out.old }
 {
-    put(out, &u32::to_be_bytes(v));
+    put(out, &octets::to_be_u32(v));
 }
 
 /// Puts a number over the first eight bytes, if there are eight.
 pub fn put_u64(out: &mut [u8], v: u64)
     ensures { out.new ≡ put_long v out.old }
 {
-    put(out, &u64::to_be_bytes(v));
+    put(out, &octets::to_be_u64(v));
 }
 
 /// Puts a byte and then the lowest three of a number over the first four bytes, if there are four. They are put as one
