@@ -9,9 +9,9 @@ ghost use Rattle.radius_rules.specs.Rules.{is_fixed};
 
 use record::Record;
 
-const HEADER_SIZE: u32 = rfc2865::attribute::HEADER_SIZE as u32;
+/// A type and a length are a byte each (RFC 2865, section 5), and the header is both.
+pub const HEADER_SIZE: u32 = rfc2865::attribute::HEADER_SIZE as u32;
 
-// A type and a length are a byte each.
 const MOST_CODE: u32 = 255;
 
 const MOST_LENGTH: u32 = 255;
@@ -44,8 +44,13 @@ fn keeps(r: Record, available: usize) -> bool
 pub fn keepers(table: &[u8], available: usize) -> usize
     ensures { result ≡ keepers available (table_of table.now) }
 {
-    table
-        .chunks_exact(Record::SIZE)
-        .take_while(|row| keeps(Record::get(row), available))
-        .count()
+    let mut kept: usize = 0;
+    for row in table.chunks_exact(Record::SIZE) {
+        let r = Record::get(row);
+        if !keeps(r, available) {
+            return kept;
+        }
+        kept += 1;
+    }
+    kept
 }

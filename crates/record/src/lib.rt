@@ -5,7 +5,7 @@
 pub mod kinds;
 pub mod outline;
 
-ghost use Rattle.std.specs.Prelude.{◌≡◌, ◌≤◌, length, take, drop, replicate, leb};
+ghost use Rattle.std.specs.Prelude.{◌≡◌, ◌≤◌, ◌++◌, length, take, drop, replicate, leb};
 ghost use Rattle.std.proofs.lemmas.List.Edits.{sets};
 ghost use Rattle.octets.specs.Octets.{pack};
 ghost use Rattle.record.specs.Record.{record_size, layout, record_at};
@@ -116,6 +116,13 @@ impl Record {
         word::put_u32(&mut table[32..36], parent);
     }
 
+    // A record's bytes at the front of a table. A byte that is absent counts as 0.
+    fn padded(table: &[u8]) -> [u8; Self::SIZE]
+        ensures { result ≡ take record_size (table.now ++ replicate record_size 0) }
+    {
+        word::front(table)
+    }
+
     // Bytes 18, 23 and 24 to 31 have no part in it.
     fn fields(table: &[u8]) -> Record
         requires { record_size ≤ length table.now }
@@ -145,8 +152,7 @@ impl Record {
         ensures { result ≡ entry_at table.now }
     {
         if table.len() < Self::SIZE {
-            let bytes: [u8; Self::SIZE] = word::front(table);
-            return Self::fields(&bytes);
+            return Self::fields(&Self::padded(table));
         }
         Self::fields(table)
     }
@@ -167,8 +173,7 @@ impl Record {
         ensures { result ≡ record_at table.now }
     {
         if table.len() < Self::SIZE {
-            let bytes: [u8; Self::SIZE] = word::front(table);
-            return Self::all_fields(&bytes);
+            return Self::all_fields(&Self::padded(table));
         }
         Self::all_fields(table)
     }

@@ -7,3 +7,4 @@ pub mod Answered
 pub mod Sums
 pub mod Rows
 pub mod Laid
+pub mod Moves

@@ -7,4 +7,4 @@ use Rattle.record.proofs.Record.get.Goals as goal
 
 pub returns-then-table-lt-SIZE : goal.returns-then-table-lt-SIZE
 unfolding entry_at record_at
-returns-then-table-lt-SIZE c = c.fields.ensures ∙ ap bare (value_of_front 36 _ c.front-bytes.ensures record_layout (omega arith))
+returns-then-table-lt-SIZE c = c.fields.ensures ∙ ap bare (value_of_front 36 _ c.padded.ensures record_layout (omega arith))

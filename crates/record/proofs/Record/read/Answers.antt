@@ -6,4 +6,4 @@ use Rattle.record.proofs.Record.read.Goals as goal
 
 pub returns-then-table-lt-SIZE : goal.returns-then-table-lt-SIZE
 unfolding record_at
-returns-then-table-lt-SIZE c = c.all_fields.ensures ∙ value_of_front 36 _ c.front-bytes.ensures record_layout (omega arith)
+returns-then-table-lt-SIZE c = c.all_fields.ensures ∙ value_of_front 36 _ c.padded.ensures record_layout (omega arith)
